@@ -38,7 +38,7 @@ class Help(unittest.TestCase):
             run = jcconv(*words)
             self.assertEqual((run.status, run.out), (1, ""))
             self.assertEqual(run.err, "jcconv: there is no word what; there are: convert, check, jvm, card, make,"
-                                      " verify, compat, explain, pack, unpack, advise\n")
+                                      " verify, compat, link, linkjvm, explain, pack, unpack, advise\n")
 
     def test_words_that_stand_alone(self):
         for words in (["--help", "pack"], ["-h", "-h"], ["--version", "now"], ["--prove", "now"], ["--prove", "-h"]):
@@ -71,7 +71,8 @@ class Help(unittest.TestCase):
     def test_forms_are_those_of_the_program(self):
         page = read(TOP, "docs", "COMMANDS.md").decode()
         usage = re.search(r"`usage: jcconv (.*?)`", page)[1]
-        forms = [helping.WORDS[word][0] for word in ("convert", "check", "jvm", "card", "make", "verify", "compat")]
+        words = ("convert", "check", "jvm", "card", "make", "verify", "compat", "link", "linkjvm")
+        forms = [helping.WORDS[word][0] for word in words]
         self.assertEqual(usage.split(", "), forms)
 
 
@@ -122,7 +123,7 @@ class Examples(unittest.TestCase):
 
     def test_aids(self):
         paths = glob.glob(os.path.join(TOP, "examples", "*", "*.exp"))
-        self.assertEqual(len(paths), 3)
+        self.assertEqual(len(paths), 5)
         for path in paths:
             self.assertEqual(exportfile.read(path).aid[0], 0xF0, path)
 

@@ -1,10 +1,10 @@
 -- Where no part of what is written breaks a rule, none is broken.
 use Rattle.std.proofs.Common.{◌≡◌, ℕ, ap, subst, ◌∙◌, [], ◌∷◌, ◌++◌, map}
-use Rattle.cjc_verify.specs.Bytes.Breaks.{Among}
+use Rattle.cjc_types.specs.Bytes.Breaks.{Among}
 use Rattle.cjc_types.proofs.BytesBrokenRules.{no_among}
-use Rattle.cjc_card_acts.specs.CardTypes.{is_type_of}
-use Rattle.cjc_card_acts.specs.LowerCheckRules.Consistent.{break_at}
-use Rattle.cjc_check_proof.specs.Components.Package.{Package}
+use Rattle.cjc_verify.specs.CardActs.CardTypes.{is_type_of}
+use Rattle.cjc_verify.specs.CheckRules.Consistent.{break_at}
+use Rattle.cjc_verify.specs.Components.Package.{Package}
 use Rattle.cjc_check_proof.proofs.TokenProofTests.{none_in_both}
 use Rattle.cjc_verify.specs.Bodies.{frames_of}
 use Rattle.cjc_verify.specs.Described.{all_array_spots, described_spots}

@@ -4,32 +4,32 @@ use Rattle.std.proofs.Common.{◌≡◌, ℕ, ◌+◌, ◌==◌, refl, sym, ap, 
 use Rattle.std.proofs.Common.{Option, Some, None}
 use Rattle.std.specs.Prelude.{if◌then◌else◌}
 use Rattle.std.specs.List.{AllByRecursion}
-use Rattle.cjc_verify.specs.Bytes.declared.fault.MemberId.{MemberId}
-use Rattle.cjc_verify.specs.Bytes.declared.descriptor.Kind.{Kind}
-use Rattle.cjc_verify.specs.Bytes.declared.descriptor.Kind.TheVariants as kinds
+use Rattle.cjc_types.specs.Bytes.declared.fault.MemberId.{MemberId}
+use Rattle.cjc_types.specs.Bytes.declared.descriptor.Kind.{Kind}
+use Rattle.cjc_types.specs.Bytes.declared.descriptor.Kind.TheVariants as kinds
 use Rattle.cjc_types.proofs.BytesLists.{bytes_true}
 use Rattle.cjc_types.proofs.BytesNumbers.{like_number}
 use Rattle.cjc_types.proofs.BytesQuantified.{all_both}
-use Rattle.cjc_card_acts.specs.LowerCheckRules.Spots.{beside, in_info}
-use Rattle.cjc_card_acts.specs.LowerCheckRules.Complete.{array_size}
-use Rattle.cjc_frames.specs.ClassFile.declared.tree.ClassTree.{ClassTree}
-use Rattle.cjc_verify.specs.World.declared.image.ArrayCell.{ArrayCell}
-use Rattle.cjc_verify.specs.World.declared.image.StaticImage.{StaticImage}
-use Rattle.cjc_verify.specs.World.declared.image.ValueCell.{ValueCell}
-use Rattle.cjc_verify.specs.World.Files.{Files}
-use Rattle.cjc_check_proof.specs.Clinit.declared.stage.Held.{Held}
-use Rattle.cjc_check_proof.specs.Clinit.Fields.{Contents, array_desc, takes}
-use Rattle.cjc_check_proof.specs.Clinit.Image.{AreInitialised, IsImage, array_in, arrays_of, own_field}
-use Rattle.cjc_check_proof.specs.Clinit.Image.AreInitialised.{none as no_code, other as other_code, one as one_code}
-use Rattle.cjc_check_proof.specs.Clinit.Initialiser.{Initialises, Makes, of_number, of_null, of_array, Put}
-use Rattle.cjc_check_proof.specs.Clinit.Initialiser.{element_kind}
-use Rattle.cjc_check_proof.specs.Clinit.Initialiser.{open_place}
-use Rattle.cjc_check_proof.specs.Clinit.Initialiser.{place_for}
-use Rattle.cjc_check_proof.specs.Clinit.Initialiser.Initialises.{ends, puts}
-use Rattle.cjc_frames.specs.Bytecode.declared.insn.JOp.{JOp}
-use Rattle.cjc_frames.specs.Bytecode.declared.method_code.MethodCode.{MethodCode}
-use Rattle.cjc_check_proof.specs.Components.Package.{Package}
-use Rattle.cjc_check_proof.specs.Components.Statics.{array_init, type_number}
+use Rattle.cjc_verify.specs.CheckRules.Spots.{beside, in_info}
+use Rattle.cjc_verify.specs.CheckRules.Complete.{array_size}
+use Rattle.cjc_types.specs.ClassFile.declared.tree.ClassTree.{ClassTree}
+use Rattle.cjc_types.specs.World.declared.image.ArrayCell.{ArrayCell}
+use Rattle.cjc_types.specs.World.declared.image.StaticImage.{StaticImage}
+use Rattle.cjc_types.specs.World.declared.image.ValueCell.{ValueCell}
+use Rattle.cjc_types.specs.World.Files.{Files}
+use Rattle.cjc_verify.specs.Clinit.declared.stage.Held.{Held}
+use Rattle.cjc_verify.specs.Clinit.Fields.{Contents, array_desc, takes}
+use Rattle.cjc_verify.specs.Clinit.Image.{AreInitialised, IsImage, array_in, arrays_of, own_field}
+use Rattle.cjc_verify.specs.Clinit.Image.AreInitialised.{none as no_code, other as other_code, one as one_code}
+use Rattle.cjc_verify.specs.Clinit.Initialiser.{Initialises, Makes, of_number, of_null, of_array, Put}
+use Rattle.cjc_verify.specs.Clinit.Initialiser.{element_kind}
+use Rattle.cjc_verify.specs.Clinit.Initialiser.{open_place}
+use Rattle.cjc_verify.specs.Clinit.Initialiser.{place_for}
+use Rattle.cjc_verify.specs.Clinit.Initialiser.Initialises.{ends, puts}
+use Rattle.cjc_types.specs.Bytecode.declared.insn.JOp.{JOp}
+use Rattle.cjc_types.specs.Bytecode.declared.method_code.MethodCode.{MethodCode}
+use Rattle.cjc_verify.specs.Components.Package.{Package}
+use Rattle.cjc_verify.specs.Components.Statics.{array_init, type_number}
 use Rattle.cjc_check_proof.proofs.TokenProofTests.{none_in_both, passes}
 use Rattle.cjc_check_proof.proofs.TokenProofGroups.{GroupsAre, groups_are}
 use Rattle.cjc_verify.specs.Described.{all_array_spots, array_number, array_spots, is_number}

@@ -10,7 +10,7 @@ use Rattle.std.proofs.lemmas.List.{length-drop, length-map}
 use Rattle.cjc_types.proofs.Greater.{member_passes}
 use Rattle.cjc_types.specs.Names.{In}
 use Rattle.cjc_types.specs.Cells.{IsCellBelow}
-use Rattle.cjc_frames.specs.Fixpoint.Tables.{IsClosed}
+use Rattle.cjc_types.specs.Fixpoint.Tables.{IsClosed}
 use Rattle.cjc_types.specs.Rules.{all_types}
 use Rattle.cjc_types.specs.States.{IsStackBelow, states}
 use Rattle.cjc_types.specs.declared.cell.Cell.{Cell}

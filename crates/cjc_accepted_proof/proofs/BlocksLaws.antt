@@ -10,9 +10,9 @@ use Rattle.std.proofs.lemmas.List.Elements.{Contains-append_cases}
 use Rattle.cjc_types.proofs.BytesGets.{get_back, get_below, get_front, get_inside, get_mapped}
 use Rattle.cjc_types.proofs.BytesGets.{position_there}
 use Rattle.cjc_types.specs.Cells.{IsCellBelow}
-use Rattle.cjc_frames.specs.Fixpoint.Tables.{Covers, HasRow, IsClosed}
-use Rattle.cjc_frames.specs.Fixpoint.Working.Edges.{contains_cons, contains_head, contains_tail}
-use Rattle.cjc_frames.specs.Fixpoint.declared.flow.Edge.{Edge}
+use Rattle.cjc_types.specs.Fixpoint.Tables.{Covers, HasRow, IsClosed}
+use Rattle.cjc_types.specs.Fixpoint.Working.Edges.{contains_cons, contains_head, contains_tail}
+use Rattle.cjc_types.specs.Fixpoint.declared.flow.Edge.{Edge}
 use Rattle.cjc_types.specs.States.{IsStackBelow, states}
 use Rattle.cjc_types.specs.declared.cell.Cell.{Cell}
 use Rattle.cjc_types.specs.declared.cell.Cell.TheVariants.{Number, Refs, Unusable}

@@ -3,21 +3,21 @@ use Rattle.std.proofs.Common.{◌≡◌, ℕ, ◌<◌, ◌^◌, refl, sym, ap, �
 use Rattle.std.specs.Prelude.{◌&&◌, ◌||◌, Some, option_and_then}
 use Rattle.std.specs.List.{list_all, list_any}
 use Rattle.std.proofs.lemmas.Bool.{lt-ltb}
-use Rattle.cjc_verify.specs.Bytes.Descriptor.{AreTypes, IsDescriptor, IsResult, Part, Parts, field, method, next, none}
-use Rattle.cjc_verify.specs.Bytes.Descriptor.{nothing}
-use Rattle.cjc_verify.specs.Bytes.Descriptor.{value}
-use Rattle.cjc_verify.specs.Bytes.Spots.{desc_of}
-use Rattle.cjc_verify.specs.Bytes.declared.descriptor.Kind.{Kind}
-use Rattle.cjc_verify.specs.Bytes.declared.descriptor.Kind.TheVariants as kinds
+use Rattle.cjc_types.specs.Bytes.Descriptor.{AreTypes, IsDescriptor, IsResult, Part, Parts, field, method, next, none}
+use Rattle.cjc_types.specs.Bytes.Descriptor.{nothing}
+use Rattle.cjc_types.specs.Bytes.Descriptor.{value}
+use Rattle.cjc_types.specs.Bytes.Spots.{desc_of}
+use Rattle.cjc_types.specs.Bytes.declared.descriptor.Kind.{Kind}
+use Rattle.cjc_types.specs.Bytes.declared.descriptor.Kind.TheVariants as kinds
 use Rattle.cjc_types.proofs.BytesBools.{or_left, or_right}
 use Rattle.cjc_types.proofs.BytesDescriptorTypes.{desc_spelt}
 use Rattle.cjc_types.proofs.BytesQuantified.{last_false}
-use Rattle.cjc_check_proof.specs.Script.Sorts.{Boolean, Byte, Int, NoValue, Reference, Short, Sort, result_by}
-use Rattle.cjc_check_proof.specs.Script.Sorts.{signature_by}
-use Rattle.cjc_check_proof.specs.Script.Sorts.{sort_of}
-use Rattle.cjc_check_proof.specs.Script.Sorts.{sort_or_none}
-use Rattle.cjc_check_proof.specs.Subset.Types.{is_any_unsupported, is_unsupported_desc, is_unsupported_part}
-use Rattle.cjc_check_proof.specs.LowerNarrowProof.Selection.Objects.{has_values}
+use Rattle.cjc_verify.specs.Script.Sorts.{Boolean, Byte, Int, NoValue, Reference, Short, Sort, result_by}
+use Rattle.cjc_verify.specs.Script.Sorts.{signature_by}
+use Rattle.cjc_verify.specs.Script.Sorts.{sort_of}
+use Rattle.cjc_verify.specs.Script.Sorts.{sort_or_none}
+use Rattle.cjc_verify.specs.Subset.Types.{is_any_unsupported, is_unsupported_desc, is_unsupported_part}
+use Rattle.cjc_check_proof.specs.NarrowProof.Selection.Objects.{has_values}
 use Rattle.cjc_check_proof.proofs.NarrowProofWordTypes.{type_values}
 use Rattle.cjc_verify.specs.Pairs.{is_card_result, is_card_sort, is_card_type}
 use Rattle.cjc_accepted_proof.specs.Carded.{IsOnCard}

@@ -8,48 +8,48 @@ use Rattle.std.specs.List.{AllByRecursion, find}
 use Rattle.std.specs.Str.{bytes_eq}
 use Rattle.std.proofs.lemmas.Bool.Decides.{nat_tests}
 use Rattle.std.proofs.lemmas.List.Concat.{flat_map-cons}
-use Rattle.cjc_verify.specs.Bytes.AccessFlags.{is_static}
+use Rattle.cjc_types.specs.Bytes.AccessFlags.{is_static}
 use Rattle.cjc_types.proofs.BytesBools.{both_back}
 use Rattle.cjc_types.proofs.BytesGets.{get_below, get_mapped, position_there}
 use Rattle.cjc_types.proofs.BytesLists.{bytes_true, length_mapped, name_is, none_left, none_right}
 use Rattle.cjc_types.proofs.BytesNumbers.{like_number, number_same_number}
-use Rattle.cjc_card_acts.specs.CapRead.ClassRefs.{same_class}
-use Rattle.cjc_card_acts.specs.CapRead.declared.tree.FieldDescriptor.{FieldDescriptor}
-use Rattle.cjc_card_acts.specs.CapRead.declared.tree.FieldPlace.TheVariants as places
-use Rattle.cjc_card_acts.specs.CapRead.declared.tree.PoolEntry.{PoolEntry}
-use Rattle.cjc_card_acts.specs.CapRead.declared.tree.TypeDescriptor.{TypeDescriptor}
-use Rattle.cjc_card_acts.specs.LowerCheckRules.ClassRefs.{fields_begin, pool_count_at}
-use Rattle.cjc_card_acts.specs.LowerCheckRules.Complete.{described_size, type_size}
-use Rattle.cjc_card_acts.specs.LowerCheckRules.Described.{has_type, is_type, methods_begin, type_is_there}
-use Rattle.cjc_card_acts.specs.LowerCheckRules.Described.{type_of_entry}
-use Rattle.cjc_card_acts.specs.LowerCheckRules.Described.{type_of_field}
-use Rattle.cjc_card_acts.specs.LowerCheckRules.Described.{type_of_method, types_in_class, types_in_pool}
-use Rattle.cjc_card_acts.specs.LowerCheckRules.Spots.{Placed, along, begins, beside, in_info, item_at, placed, starts}
-use Rattle.cjc_card_acts.specs.LowerCheckRules.Spots.{unless}
-use Rattle.cjc_card_acts.specs.LowerCheckRules.declared.spot.ComponentPlace.{ComponentPlace}
+use Rattle.cjc_verify.specs.CapRead.ClassRefs.{same_class}
+use Rattle.cjc_verify.specs.CapRead.declared.tree.FieldDescriptor.{FieldDescriptor}
+use Rattle.cjc_verify.specs.CapRead.declared.tree.FieldPlace.TheVariants as places
+use Rattle.cjc_verify.specs.CapRead.declared.tree.PoolEntry.{PoolEntry}
+use Rattle.cjc_verify.specs.CapRead.declared.tree.TypeDescriptor.{TypeDescriptor}
+use Rattle.cjc_verify.specs.CheckRules.ClassRefs.{fields_begin, pool_count_at}
+use Rattle.cjc_verify.specs.CheckRules.Complete.{described_size, type_size}
+use Rattle.cjc_verify.specs.CheckRules.Described.{has_type, is_type, methods_begin, type_is_there}
+use Rattle.cjc_verify.specs.CheckRules.Described.{type_of_entry}
+use Rattle.cjc_verify.specs.CheckRules.Described.{type_of_field}
+use Rattle.cjc_verify.specs.CheckRules.Described.{type_of_method, types_in_class, types_in_pool}
+use Rattle.cjc_verify.specs.CheckRules.Spots.{Placed, along, begins, beside, in_info, item_at, placed, starts}
+use Rattle.cjc_verify.specs.CheckRules.Spots.{unless}
+use Rattle.cjc_verify.specs.CheckRules.declared.spot.ComponentPlace.{ComponentPlace}
 use Rattle.cjc_check_proof.proofs.ClassesLaws.Lists.{begins_where, start_within}
-use Rattle.cjc_check_proof.specs.Script.Sorts.{Boolean, Byte, Int, NoValue, OfClass, OfNumbers}
-use Rattle.cjc_check_proof.specs.Script.Sorts.{OfReferences}
-use Rattle.cjc_check_proof.specs.Script.Sorts.{Reference, Short, Signature, Sort, field_sort, signature_of}
-use Rattle.cjc_frames.specs.ClassFile.declared.tree.FieldTree.{FieldTree}
-use Rattle.cjc_verify.specs.World.Classes.{Class}
-use Rattle.cjc_verify.specs.World.Order.{class_order, methods_of_class}
-use Rattle.cjc_verify.specs.World.declared.found.Found.{Found}
-use Rattle.cjc_verify.specs.Tokens.Fields.{is_constant}
-use Rattle.cjc_check_proof.specs.Clinit.Image.{field_id}
-use Rattle.cjc_verify.specs.NCode.Lowering.Naming.{entry_of}
-use Rattle.cjc_verify.specs.NCode.declared.narrow.PoolKey.{PoolKey}
-use Rattle.cjc_verify.specs.NCode.declared.narrow.PoolKey.TheVariants as keys
-use Rattle.cjc_check_proof.specs.Components.Class.{fields_of}
-use Rattle.cjc_check_proof.specs.Components.Descriptor.{class_descriptor, descriptor, field_descriptor}
-use Rattle.cjc_check_proof.specs.Components.Descriptor.{field_place, field_type, fields_from, method_descriptor}
-use Rattle.cjc_check_proof.specs.Components.Descriptor.{method_in, pool_type}
-use Rattle.cjc_check_proof.specs.Components.Names.{class_ref, names}
-use Rattle.cjc_check_proof.specs.Components.Package.{Package, pool, world}
-use Rattle.cjc_check_proof.specs.Components.Statics.{cell_offset}
-use Rattle.cjc_check_proof.specs.Components.Types.{desc_of_key, nibbles_by, nibbles_of, ref_nibbles}
-use Rattle.cjc_check_proof.specs.Components.Types.{result_nibbles}
-use Rattle.cjc_check_proof.specs.Components.Types.{sort_nibbles, type_descriptor, type_offset, type_starts, types_of}
+use Rattle.cjc_verify.specs.Script.Sorts.{Boolean, Byte, Int, NoValue, OfClass, OfNumbers}
+use Rattle.cjc_verify.specs.Script.Sorts.{OfReferences}
+use Rattle.cjc_verify.specs.Script.Sorts.{Reference, Short, Signature, Sort, field_sort, signature_of}
+use Rattle.cjc_types.specs.ClassFile.declared.tree.FieldTree.{FieldTree}
+use Rattle.cjc_types.specs.World.Classes.{Class}
+use Rattle.cjc_types.specs.World.Order.{class_order, methods_of_class}
+use Rattle.cjc_types.specs.World.declared.found.Found.{Found}
+use Rattle.cjc_check_proof.specs.Tokens.Fields.{is_constant}
+use Rattle.cjc_verify.specs.Clinit.Image.{field_id}
+use Rattle.cjc_check_proof.specs.NCode.Lowering.Naming.{entry_of}
+use Rattle.cjc_check_proof.specs.NCode.declared.narrow.PoolKey.{PoolKey}
+use Rattle.cjc_check_proof.specs.NCode.declared.narrow.PoolKey.TheVariants as keys
+use Rattle.cjc_verify.specs.Components.Class.{fields_of}
+use Rattle.cjc_verify.specs.Components.Descriptor.{class_descriptor, descriptor, field_descriptor}
+use Rattle.cjc_verify.specs.Components.Descriptor.{field_place, field_type, fields_from, method_descriptor}
+use Rattle.cjc_verify.specs.Components.Descriptor.{method_in, pool_type}
+use Rattle.cjc_verify.specs.Components.Names.{class_ref, names}
+use Rattle.cjc_verify.specs.Components.Package.{Package, pool, world}
+use Rattle.cjc_verify.specs.Components.Statics.{cell_offset}
+use Rattle.cjc_verify.specs.Components.Types.{desc_of_key, nibbles_by, nibbles_of, ref_nibbles}
+use Rattle.cjc_verify.specs.Components.Types.{result_nibbles}
+use Rattle.cjc_verify.specs.Components.Types.{sort_nibbles, type_descriptor, type_offset, type_starts, types_of}
 use Rattle.cjc_check_proof.proofs.TokenProofTests.{none_in_both, passes}
 use Rattle.cjc_verify.specs.Described.{are_nibbles, class_spots, described_spots, entry_spots}
 use Rattle.cjc_verify.specs.Described.{field_spots, is_entry_type, is_field_type, is_place, method_spots}

@@ -5,14 +5,14 @@ use Rattle.std.specs.List.{AllZip}
 use Rattle.std.proofs.lemmas.List.{length-map}
 use Rattle.std.proofs.lemmas.List.Elements.{All-cons, All-head, All-map, All-tail}
 use Rattle.cjc_types.specs.Cells.{IsCell, IsCellBelow, cells as cells_in_order}
-use Rattle.cjc_frames.specs.Fixpoint.Lattice.{IsListOf}
+use Rattle.cjc_types.specs.Fixpoint.Lattice.{IsListOf}
 use Rattle.cjc_types.specs.States.{IsCellStack, IsStack, IsStackBelow, states}
 use Rattle.cjc_types.specs.declared.cell.Cell.{Cell}
 use Rattle.cjc_types.specs.declared.cell.Cell.TheVariants.{Number, Refs, Unusable}
 use Rattle.cjc_types.specs.declared.state.Stack.{Stack}
 use Rattle.cjc_types.specs.declared.state.Stack.TheVariants.{Cells, Clash}
 use Rattle.cjc_types.specs.declared.state.State.{State}
-use Rattle.cjc_check_proof.specs.Narrow.Pairs.Open.{Open, begun, closed, pushed}
+use Rattle.cjc_verify.specs.Narrow.Pairs.Open.{Open, begun, closed, pushed}
 use Rattle.cjc_accepted_proof.specs.Frames.{card_cell, card_cells, card_stack, card_state, left_out}
 use Rattle.cjc_accepted_proof.specs.Methods.{between, without_top}
 use Rattle.cjc_accepted_proof.proofs.TypesLaws.{cells_below, types_few, types_set}

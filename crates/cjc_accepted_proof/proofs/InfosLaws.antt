@@ -8,31 +8,31 @@ use Rattle.cjc_types.proofs.BytesBools.{not_true}
 use Rattle.cjc_types.proofs.BytesGets.{all_at}
 use Rattle.cjc_types.proofs.BytesLists.{length_mapped, map_map, map_same}
 use Rattle.cjc_types.proofs.BytesNumbers.{like_number, number_same_number}
-use Rattle.cjc_verify.specs.Bytes.AccessFlags.{is_interface}
-use Rattle.cjc_card_acts.specs.CapRead.ClassRefs.{same_class}
-use Rattle.cjc_card_acts.specs.CapRead.declared.tree.ClassEntry.{ClassEntry}
-use Rattle.cjc_card_acts.specs.CapRead.declared.tree.ClassRef.{ClassRef}
-use Rattle.cjc_card_acts.specs.LowerCheckRules.Classes.{first_interface}
-use Rattle.cjc_card_acts.specs.LowerCheckRules.ClassRefs.{maps_begin}
-use Rattle.cjc_card_acts.specs.LowerCheckRules.Complete.{map_size}
-use Rattle.cjc_card_acts.specs.LowerCheckRules.Spots.{beside, in_info, unless}
-use Rattle.cjc_card_acts.specs.LowerCheckRules.declared.spot.ComponentPlace.{ComponentPlace}
-use Rattle.cjc_check_proof.specs.CardSemantics.Machine.Classes.{Info, IsClass, IsInterface, info_size}
-use Rattle.cjc_verify.specs.World.Classes.{Class}
-use Rattle.cjc_verify.specs.World.Order.{class_order, in_order}
-use Rattle.cjc_verify.specs.World.declared.found.Found.{Found}
-use Rattle.cjc_verify.specs.Tokens.Fields.{instance_cells}
-use Rattle.cjc_verify.specs.VTable.Tables.{table_of}
-use Rattle.cjc_verify.specs.VTable.declared.table.ClassTable.{ClassTable}
-use Rattle.cjc_verify.specs.VTable.declared.table.InterfaceMap.{InterfaceMap}
-use Rattle.cjc_check_proof.specs.Components.Class.{class_entry, fields_of, first_reference_token, implemented}
-use Rattle.cjc_check_proof.specs.Components.Class.{info_flags}
-use Rattle.cjc_check_proof.specs.Components.Class.{interface_entry, interfaces_of, reference_count, superclass}
-use Rattle.cjc_check_proof.specs.Components.Class.{table_entry}
-use Rattle.cjc_check_proof.specs.Components.Methods.{method_offset}
-use Rattle.cjc_check_proof.specs.Components.Names.{class_ref}
-use Rattle.cjc_check_proof.specs.Components.Package.{Package, world}
-use Rattle.cjc_check_proof.specs.LowerTokenProof.Components.Methods.{HasMethods}
+use Rattle.cjc_types.specs.Bytes.AccessFlags.{is_interface}
+use Rattle.cjc_verify.specs.CapRead.ClassRefs.{same_class}
+use Rattle.cjc_verify.specs.CapRead.declared.tree.ClassEntry.{ClassEntry}
+use Rattle.cjc_verify.specs.CapRead.declared.tree.ClassRef.{ClassRef}
+use Rattle.cjc_verify.specs.CheckRules.Classes.{first_interface}
+use Rattle.cjc_verify.specs.CheckRules.ClassRefs.{maps_begin}
+use Rattle.cjc_verify.specs.CheckRules.Complete.{map_size}
+use Rattle.cjc_verify.specs.CheckRules.Spots.{beside, in_info, unless}
+use Rattle.cjc_verify.specs.CheckRules.declared.spot.ComponentPlace.{ComponentPlace}
+use Rattle.cjc_verify.specs.CardSemantics.Machine.Classes.{Info, IsClass, IsInterface, info_size}
+use Rattle.cjc_types.specs.World.Classes.{Class}
+use Rattle.cjc_types.specs.World.Order.{class_order, in_order}
+use Rattle.cjc_types.specs.World.declared.found.Found.{Found}
+use Rattle.cjc_check_proof.specs.Tokens.Fields.{instance_cells}
+use Rattle.cjc_check_proof.specs.VTable.Tables.{table_of}
+use Rattle.cjc_check_proof.specs.VTable.declared.table.ClassTable.{ClassTable}
+use Rattle.cjc_check_proof.specs.VTable.declared.table.InterfaceMap.{InterfaceMap}
+use Rattle.cjc_verify.specs.Components.Class.{class_entry, fields_of, first_reference_token, implemented}
+use Rattle.cjc_verify.specs.Components.Class.{info_flags}
+use Rattle.cjc_verify.specs.Components.Class.{interface_entry, interfaces_of, reference_count, superclass}
+use Rattle.cjc_verify.specs.Components.Class.{table_entry}
+use Rattle.cjc_verify.specs.Components.Methods.{method_offset}
+use Rattle.cjc_verify.specs.Components.Names.{class_ref}
+use Rattle.cjc_verify.specs.Components.Package.{Package, world}
+use Rattle.cjc_check_proof.specs.TokenProof.Components.Methods.{HasMethods}
 use Rattle.cjc_check_proof.proofs.TokenProofTests.{none_in_both, passes}
 use Rattle.cjc_check_proof.proofs.TokenProofApart.{IsPlaced, line_placed}
 use Rattle.cjc_verify.specs.Infos.{all_info_spots, all_table_spots, class_spots, entries_differ, head_of, info_spots}

@@ -1,21 +1,21 @@
 -- Rows of fields, calls and handlers: their acts mirror the instructions of the class file where entries of the pool
 -- fit the members that these name.
-use Rattle.cjc_frames.specs.ClassFile.declared.tree.Catch.{Catch as CatchByName}
+use Rattle.cjc_types.specs.ClassFile.declared.tree.Catch.{Catch as CatchByName}
 use Rattle.std.proofs.Common.{◌≡◌, ℕ, zero, suc, ◌+◌, ◌-◌, ◌<◌, ◌≤◌, refl, sym, ap, subst, ◌∙◌, arith, Bool, true}
 use Rattle.std.proofs.Common.{false, List, [], ◌∷◌, ◌++◌, length, length-append, map, drop, get_or, slice_get, Option}
 use Rattle.std.proofs.Common.{Some, None, append_assoc}
 use Rattle.std.specs.Prelude.{◌&&◌, ◌||◌, ◌==◌, not, nat_lt, option_to_list, if◌then◌else◌}
 use Rattle.std.specs.List.{AllZip}
 use Rattle.std.proofs.lemmas.Bool.Decides.{nat_tests}
-use Rattle.cjc_verify.specs.Bytes.Descriptor.{Part}
-use Rattle.cjc_verify.specs.Bytes.declared.descriptor.Kind.{Kind}
-use Rattle.cjc_verify.specs.Bytes.declared.descriptor.Kind.TheVariants as kinds
-use Rattle.cjc_verify.specs.Bytes.declared.fault.MemberId.{MemberId}
-use Rattle.cjc_card_acts.specs.CapRead.declared.tree.ClassRef.{ClassRef}
-use Rattle.cjc_frames.specs.Bytecode.Jvm as jvm
-use Rattle.cjc_frames.specs.Bytecode.declared.insn.JOp.{JOp}
-use Rattle.cjc_frames.specs.Bytecode.declared.insn.JOp.TheVariants as jop
-use Rattle.cjc_check_proof.specs.CardSemantics.Bytecode.Effects.{Letter}
+use Rattle.cjc_types.specs.Bytes.Descriptor.{Part}
+use Rattle.cjc_types.specs.Bytes.declared.descriptor.Kind.{Kind}
+use Rattle.cjc_types.specs.Bytes.declared.descriptor.Kind.TheVariants as kinds
+use Rattle.cjc_types.specs.Bytes.declared.fault.MemberId.{MemberId}
+use Rattle.cjc_verify.specs.CapRead.declared.tree.ClassRef.{ClassRef}
+use Rattle.cjc_types.specs.Bytecode.Jvm as jvm
+use Rattle.cjc_types.specs.Bytecode.declared.insn.JOp.{JOp}
+use Rattle.cjc_types.specs.Bytecode.declared.insn.JOp.TheVariants as jop
+use Rattle.cjc_verify.specs.CardSemantics.Bytecode.Effects.{Letter}
 use Rattle.cjc_types.specs.Cells.{IsCellBelow}
 use Rattle.cjc_types.specs.Flow.{Body}
 use Rattle.cjc_types.specs.Rules.{accepts, has_wrong as has_wrong_by_name, is_number, is_value, is_value_of}
@@ -26,16 +26,16 @@ use Rattle.cjc_types.specs.declared.state.State.{State}
 use Rattle.cjc_types.specs.Flow.{caught as caught_by_name, caught_type}
 use Rattle.cjc_frames.specs.declared.acts.Catch.{Catch}
 use Rattle.cjc_frames.specs.Flow.{caught}
-use Rattle.cjc_check_proof.specs.Narrow.Pairs.Open.{Open, closed}
+use Rattle.cjc_verify.specs.Narrow.Pairs.Open.{Open, closed}
 use Rattle.cjc_types.specs.Types.{cell_of, is_void, parts, result_of}
 use Rattle.cjc_types.specs.declared.cell.Cell.{Cell}
 use Rattle.cjc_types.specs.declared.cell.Cell.TheVariants.{Number, Refs, Unusable}
-use Rattle.cjc_verify.specs.World.Classes.{Class}
+use Rattle.cjc_types.specs.World.Classes.{Class}
 use Rattle.cjc_frames.specs.declared.acts.Need.{Need}
 use Rattle.cjc_frames.specs.declared.acts.Need.TheVariants.{NumberWord, OfType}
 use Rattle.cjc_frames.specs.Acts.{Subtype, given, has_wrong}
-use Rattle.cjc_card_acts.specs.CardTypes.{Boolean, Byte, MemberType, Reference, Short, ValueType, Void}
-use Rattle.cjc_card_acts.specs.CardTypes.{needs_of, needs_of_all, words}
+use Rattle.cjc_verify.specs.CardActs.CardTypes.{Boolean, Byte, MemberType, Reference, Short, ValueType, Void}
+use Rattle.cjc_verify.specs.CardActs.CardTypes.{needs_of, needs_of_all, words}
 use Rattle.cjc_verify.specs.ClassTypes.{class_type}
 use Rattle.cjc_verify.specs.Instructions.{calling, calling_on, getting}
 use Rattle.cjc_accepted_proof.specs.Frames.{AreTypesFor, FieldFits, IsTypeFor, MethodFits, Mirrors, PassesFor}

@@ -1,5 +1,5 @@
 -- The frames of a method of the card that is written for one of a class file: their blocks lead to each other.
-use Rattle.cjc_frames.specs.ClassFile.declared.tree.Catch.{Catch as CatchByName}
+use Rattle.cjc_types.specs.ClassFile.declared.tree.Catch.{Catch as CatchByName}
 use Rattle.std.proofs.Common.{◌≡◌, ◌⊎◌, ⊎_elim, ℕ, zero, suc, ◌+◌, ◌-◌, ◌<◌, ◌≤◌, refl, sym, ap, subst, ◌∙◌, arith}
 use Rattle.std.proofs.Common.{Bool, true, false, List, [], ◌∷◌, ◌++◌, length, length-append, map, filter_map}
 use Rattle.std.proofs.Common.{flat_map, slice_get, Option, Some, None, option_map, Contains}
@@ -9,11 +9,11 @@ use Rattle.std.proofs.lemmas.Bool.Decides.{nat_tests}
 use Rattle.std.proofs.lemmas.List.Elements.{Contains-append_left, Contains-append_right}
 use Rattle.cjc_types.proofs.BytesGets.{get_below, get_inside, position_there}
 use Rattle.cjc_types.proofs.Typed.{contains_kept, contains_mapped}
-use Rattle.cjc_frames.specs.Bytecode.declared.insn.JInsn.{JInsn}
-use Rattle.cjc_frames.specs.Bytecode.declared.insn.JOp.{JOp}
-use Rattle.cjc_frames.specs.Fixpoint.Tables.{Covers, HasRow, IsClosed}
-use Rattle.cjc_frames.specs.Fixpoint.Working.Edges.{contains_head}
-use Rattle.cjc_frames.specs.Fixpoint.declared.flow.Edge.{Edge}
+use Rattle.cjc_types.specs.Bytecode.declared.insn.JInsn.{JInsn}
+use Rattle.cjc_types.specs.Bytecode.declared.insn.JOp.{JOp}
+use Rattle.cjc_types.specs.Fixpoint.Tables.{Covers, HasRow, IsClosed}
+use Rattle.cjc_types.specs.Fixpoint.Working.Edges.{contains_head}
+use Rattle.cjc_types.specs.Fixpoint.declared.flow.Edge.{Edge}
 use Rattle.cjc_types.specs.Flow.{Body as BodyByName, caught as caught_by_name, covers as covers_by_name}
 use Rattle.cjc_types.specs.Flow.{edge as edge_by_name, entry as entry_by_name, handler_edge as handler_edge_by_name}
 use Rattle.cjc_types.specs.Flow.{insn_edges, next_place as next_by_name, place_at as place_by_name, place_edges}
@@ -21,16 +21,16 @@ use Rattle.cjc_types.specs.Flow.{successors as successors_by_name, type_flow}
 use Rattle.cjc_types.specs.States.{states}
 use Rattle.cjc_types.specs.Steps.{after as after_by_name, goes_on as goes_on_by_name, targets}
 use Rattle.cjc_types.specs.declared.state.State.{State}
-use Rattle.cjc_verify.specs.NCode.Written.{Resolution, narrow_code, place_in, reached, written_for}
-use Rattle.cjc_verify.specs.NCode.declared.narrow.NInsn.{NInsn}
-use Rattle.cjc_verify.specs.NCode.declared.narrow.PairRole.{PairRole}
-use Rattle.cjc_check_proof.specs.Narrow.Pairs.Open.{Open, closed}
-use Rattle.cjc_check_proof.specs.LowerNarrowProof.Tables.Analysis.{Ascend, IsDecoded}
-use Rattle.cjc_check_proof.specs.LowerNarrowProof.Tables.Pairs.{AreInPairs, IsInPair, a_constant}
-use Rattle.cjc_check_proof.specs.LowerNarrowProof.Tables.Pairs.{a_local, a_narrow}
-use Rattle.cjc_check_proof.specs.LowerNarrowProof.Tables.Pairs.{a_nop, a_null, a_number, gets, goes_on as pair_goes_on}
-use Rattle.cjc_check_proof.specs.LowerNarrowProof.Tables.Pairs.{opens, pushes}
-use Rattle.cjc_check_proof.specs.LowerNarrowProof.Tables.Pairs.{puts, stands_alone}
+use Rattle.cjc_check_proof.specs.NCode.Written.{Resolution, narrow_code, place_in, reached, written_for}
+use Rattle.cjc_check_proof.specs.NCode.declared.narrow.NInsn.{NInsn}
+use Rattle.cjc_check_proof.specs.NCode.declared.narrow.PairRole.{PairRole}
+use Rattle.cjc_verify.specs.Narrow.Pairs.Open.{Open, closed}
+use Rattle.cjc_check_proof.specs.NarrowProof.Tables.Analysis.{Ascend, IsDecoded}
+use Rattle.cjc_check_proof.specs.NarrowProof.Tables.Pairs.{AreInPairs, IsInPair, a_constant}
+use Rattle.cjc_check_proof.specs.NarrowProof.Tables.Pairs.{a_local, a_narrow}
+use Rattle.cjc_check_proof.specs.NarrowProof.Tables.Pairs.{a_nop, a_null, a_number, gets, goes_on as pair_goes_on}
+use Rattle.cjc_check_proof.specs.NarrowProof.Tables.Pairs.{opens, pushes}
+use Rattle.cjc_check_proof.specs.NarrowProof.Tables.Pairs.{puts, stands_alone}
 use Rattle.cjc_check_proof.proofs.NarrowProofPlaced.{ascend_tail, first_place, size, size_fixed}
 use Rattle.cjc_frames.specs.Acts.{Subtype}
 use Rattle.cjc_frames.specs.Flow.{Body, caught, covers, entry, place_at}

@@ -4,14 +4,14 @@ use Rattle.std.proofs.Common.{◌≡◌, ℕ, ◌==◌, ◌&&◌, ap, ◌∙◌,
 use Rattle.std.specs.Prelude.{option_and_then, option_map, position, slice_get, unwrap_or}
 use Rattle.std.specs.Str.{bytes_eq}
 use Rattle.cjc_types.proofs.BytesNumbers.{like_number}
-use Rattle.cjc_card_acts.specs.CapRead.ClassRefs.{same_class}
-use Rattle.cjc_card_acts.specs.CapRead.declared.tree.ClassRef.{ClassRef}
-use Rattle.cjc_card_acts.specs.CapRead.declared.tree.ClassRef.TheVariants.{Inside, Outside}
-use Rattle.cjc_check_proof.specs.CardSemantics.Machine.Classes.{Own, external_from, or_else}
-use Rattle.cjc_verify.specs.World.Classes.{Class}
-use Rattle.cjc_verify.specs.World.Order.{class_order}
-use Rattle.cjc_check_proof.specs.Components.Names.{class_at, class_ref, info_starts, ref_to}
-use Rattle.cjc_check_proof.specs.Components.Package.{Package, world}
+use Rattle.cjc_verify.specs.CapRead.ClassRefs.{same_class}
+use Rattle.cjc_verify.specs.CapRead.declared.tree.ClassRef.{ClassRef}
+use Rattle.cjc_verify.specs.CapRead.declared.tree.ClassRef.TheVariants.{Inside, Outside}
+use Rattle.cjc_verify.specs.CardSemantics.Machine.Classes.{Own, external_from, or_else}
+use Rattle.cjc_types.specs.World.Classes.{Class}
+use Rattle.cjc_types.specs.World.Order.{class_order}
+use Rattle.cjc_verify.specs.Components.Names.{class_at, class_ref, info_starts, ref_to}
+use Rattle.cjc_verify.specs.Components.Package.{Package, world}
 use Rattle.cjc_check_proof.proofs.TokenProofStarts.{infos_stand_alike}
 use Rattle.cjc_verify.specs.Pairs as pairs
 use Rattle.cjc_accepted_proof.specs.Written.{written_pair}

@@ -8,17 +8,17 @@ use Rattle.cjc_types.proofs.BytesGets.{all_at, find_got}
 use Rattle.cjc_types.proofs.BytesLists.{map_append}
 use Rattle.cjc_types.proofs.BytesNumbers.{like_number, number_same}
 use Rattle.cjc_types.proofs.BytesQuantified.{all_both}
-use Rattle.cjc_card_acts.specs.CapRead.declared.tree.ClassRef.{ClassRef}
-use Rattle.cjc_verify.specs.World.declared.found.Found.{Found}
-use Rattle.cjc_verify.specs.World.Classes.{Class}
-use Rattle.cjc_verify.specs.World.Order.{class_order, in_order, method_order, methods_in_turn, methods_of_class}
-use Rattle.cjc_check_proof.specs.Components.Package.{LaidMethod, Package, world}
-use Rattle.cjc_check_proof.specs.Components.Methods.{Extent, extent_at, extent_from, extent_of, first_method}
-use Rattle.cjc_check_proof.specs.Components.Methods.{handler_count}
-use Rattle.cjc_check_proof.specs.Components.Methods.{is_member, method_offset, method_size, nowhere}
-use Rattle.cjc_check_proof.specs.Components.Descriptor.{class_descriptor, method_descriptor}
-use Rattle.cjc_check_proof.specs.Components.Names.{class_ref}
-use Rattle.cjc_check_proof.specs.LowerTokenProof.Components.Methods.{HasMethods}
+use Rattle.cjc_verify.specs.CapRead.declared.tree.ClassRef.{ClassRef}
+use Rattle.cjc_types.specs.World.declared.found.Found.{Found}
+use Rattle.cjc_types.specs.World.Classes.{Class}
+use Rattle.cjc_types.specs.World.Order.{class_order, in_order, method_order, methods_in_turn, methods_of_class}
+use Rattle.cjc_verify.specs.Components.Package.{LaidMethod, Package, world}
+use Rattle.cjc_verify.specs.Components.Methods.{Extent, extent_at, extent_from, extent_of, first_method}
+use Rattle.cjc_verify.specs.Components.Methods.{handler_count}
+use Rattle.cjc_verify.specs.Components.Methods.{is_member, method_offset, method_size, nowhere}
+use Rattle.cjc_verify.specs.Components.Descriptor.{class_descriptor, method_descriptor}
+use Rattle.cjc_verify.specs.Components.Names.{class_ref}
+use Rattle.cjc_check_proof.specs.TokenProof.Components.Methods.{HasMethods}
 use Rattle.cjc_check_proof.proofs.TokenProofApart.{AreOwn, order_own}
 use Rattle.cjc_verify.specs.Pairs.{Described, described_among, described_in, same_found}
 use Rattle.cjc_verify.specs.Pairs as pairs

@@ -6,12 +6,12 @@ use Rattle.std.specs.Prelude.{◌||◌, not, nat_le, nat_lt, if◌then◌else◌
 use Rattle.std.specs.List.{AllZip}
 use Rattle.std.proofs.lemmas.Bool.Decides.{nat_tests}
 use Rattle.std.proofs.lemmas.List.{length-map}
-use Rattle.cjc_verify.specs.Bytes.declared.fault.MemberId.{MemberId}
+use Rattle.cjc_types.specs.Bytes.declared.fault.MemberId.{MemberId}
 use Rattle.cjc_types.proofs.BytesGets.{get_below, get_mapped}
-use Rattle.cjc_card_acts.specs.CapRead.declared.tree.ClassRef.{ClassRef}
-use Rattle.cjc_frames.specs.Bytecode.declared.insn.JOp.{JOp}
-use Rattle.cjc_frames.specs.Bytecode.declared.insn.JOp.TheVariants as jop
-use Rattle.cjc_check_proof.specs.CardSemantics.Bytecode.Effects.{Letter}
+use Rattle.cjc_verify.specs.CapRead.declared.tree.ClassRef.{ClassRef}
+use Rattle.cjc_types.specs.Bytecode.declared.insn.JOp.{JOp}
+use Rattle.cjc_types.specs.Bytecode.declared.insn.JOp.TheVariants as jop
+use Rattle.cjc_verify.specs.CardSemantics.Bytecode.Effects.{Letter}
 use Rattle.cjc_types.specs.Cells.{IsCellBelow}
 use Rattle.cjc_types.specs.Flow.{Body}
 use Rattle.cjc_types.specs.Rules.{all_types, is_off as is_off_by_name}
@@ -22,15 +22,15 @@ use Rattle.cjc_types.specs.Types.{parts, result_of}
 use Rattle.cjc_types.specs.declared.cell.Cell.{Cell}
 use Rattle.cjc_types.specs.declared.state.Stack.TheVariants.{Cells, Clash}
 use Rattle.cjc_types.specs.declared.state.State.{State}
-use Rattle.cjc_verify.specs.World.Classes.{Class}
+use Rattle.cjc_types.specs.World.Classes.{Class}
 use Rattle.cjc_frames.specs.declared.acts.Act.{Act}
 use Rattle.cjc_frames.specs.declared.acts.Need.TheVariants.{OfType}
 use Rattle.cjc_frames.specs.Acts.{Breaks, Subtype, given, has_wrong_local, is_off, is_wrong, is_wrong_local}
 use Rattle.cjc_frames.specs.Acts.{lacks_local}
 use Rattle.cjc_frames.specs.Acts.{stack_behind}
 use Rattle.cjc_frames.specs.Acts.Breaks.{clash, wrong, off, unknown, misnamed}
-use Rattle.cjc_card_acts.specs.CardTypes.{ValueType, words}
-use Rattle.cjc_check_proof.specs.Narrow.Pairs.Open.{Open, begun, closed, pushed}
+use Rattle.cjc_verify.specs.CardActs.CardTypes.{ValueType, words}
+use Rattle.cjc_verify.specs.Narrow.Pairs.Open.{Open, begun, closed, pushed}
 use Rattle.cjc_verify.specs.ClassTypes.{class_type}
 use Rattle.cjc_verify.specs.Instructions.{getting}
 use Rattle.cjc_accepted_proof.specs.Frames.{FieldFits, MirrorsInPair, Stands, SubtypesAgree, card_cell, card_cells}

@@ -5,9 +5,9 @@ use Rattle.std.proofs.Common.{Option}
 use Rattle.std.specs.Prelude.{◌&&◌, ◌||◌, ◌==◌, not, nat_le, nat_lt, if◌then◌else◌}
 use Rattle.std.specs.List.{AllZip}
 use Rattle.std.proofs.lemmas.List.{length-map}
-use Rattle.cjc_frames.specs.Bytecode.Jvm as jvm
-use Rattle.cjc_frames.specs.Bytecode.declared.insn.JOp.{JOp}
-use Rattle.cjc_frames.specs.Bytecode.declared.insn.JOp.TheVariants as jop
+use Rattle.cjc_types.specs.Bytecode.Jvm as jvm
+use Rattle.cjc_types.specs.Bytecode.declared.insn.JOp.{JOp}
+use Rattle.cjc_types.specs.Bytecode.declared.insn.JOp.TheVariants as jop
 use Rattle.cjc_types.specs.Cells.{IsCellBelow}
 use Rattle.cjc_types.specs.Flow.{Body}
 use Rattle.cjc_types.specs.Rules.{accepts, has_wrong as has_wrong_by_name, is_number, is_off as is_off_by_name}
@@ -18,13 +18,13 @@ use Rattle.cjc_types.specs.declared.cell.Cell.{Cell}
 use Rattle.cjc_types.specs.declared.cell.Cell.TheVariants.{Number, Refs, Unusable}
 use Rattle.cjc_types.specs.declared.state.Stack.TheVariants.{Cells, Clash}
 use Rattle.cjc_types.specs.declared.state.State.{State}
-use Rattle.cjc_verify.specs.World.Classes.{Class}
+use Rattle.cjc_types.specs.World.Classes.{Class}
 use Rattle.cjc_frames.specs.declared.acts.Act.{Act}
 use Rattle.cjc_frames.specs.Acts.{Breaks, Subtype, after, given, has_wrong, has_wrong_local, is_off, is_wrong}
 use Rattle.cjc_frames.specs.Acts.{lacks_local, stack_behind}
 use Rattle.cjc_frames.specs.Acts.Breaks.{clash, wrong, off, unknown, misnamed}
-use Rattle.cjc_card_acts.specs.Rows.{calculating, number_words}
-use Rattle.cjc_check_proof.specs.Narrow.Pairs.Open.{closed}
+use Rattle.cjc_verify.specs.CardActs.Rows.{calculating, number_words}
+use Rattle.cjc_verify.specs.Narrow.Pairs.Open.{closed}
 use Rattle.cjc_accepted_proof.specs.Frames.{Mirrors, Stands, card_cell, card_cells, card_state, card_stack}
 
 -- ---- lists

@@ -1,19 +1,19 @@
 -- A subtype by name is one by token, where the class_refs of types are read back as the classes that they name.
 use Rattle.std.proofs.Common.{◌≡◌, ℕ, refl, sym, ap, ◌∙◌, Bool, true, false, List, [], ◌∷◌, Option, Some, None}
 use Rattle.std.specs.Prelude.{if◌then◌else◌, option_and_then, option_map}
-use Rattle.cjc_card_acts.specs.CapRead.declared.tree.ClassRef.{ClassRef}
-use Rattle.cjc_check_proof.specs.Script.Sorts.{Booleans, Bytes, Ints, OfClass, OfNumbers, OfReferences, Shape, Shorts}
-use Rattle.cjc_check_proof.specs.Script.Sorts.{shape_name}
-use Rattle.cjc_check_proof.specs.Script.Sorts.{shape_named}
-use Rattle.cjc_verify.specs.World.Classes.{Class}
-use Rattle.cjc_verify.specs.World.Subtype.{is_subtype}
-use Rattle.cjc_check_proof.specs.CardSemantics.Bytecode.Renaming.{shape_as}
-use Rattle.cjc_check_proof.specs.CardSemantics.Machine.Loaded.{Loaded}
-use Rattle.cjc_card_acts.specs.CardTypes.{both_of, is_type_of, shape_by}
-use Rattle.cjc_verify.specs.NCode.Lowering.Naming.{Naming}
-use Rattle.cjc_check_proof.specs.Components.Types.{shape_nibbles}
+use Rattle.cjc_verify.specs.CapRead.declared.tree.ClassRef.{ClassRef}
+use Rattle.cjc_verify.specs.Script.Sorts.{Booleans, Bytes, Ints, OfClass, OfNumbers, OfReferences, Shape, Shorts}
+use Rattle.cjc_verify.specs.Script.Sorts.{shape_name}
+use Rattle.cjc_verify.specs.Script.Sorts.{shape_named}
+use Rattle.cjc_types.specs.World.Classes.{Class}
+use Rattle.cjc_types.specs.World.Subtype.{is_subtype}
+use Rattle.cjc_verify.specs.CardSemantics.Bytecode.Renaming.{shape_as}
+use Rattle.cjc_verify.specs.CardSemantics.Machine.Loaded.{Loaded}
+use Rattle.cjc_verify.specs.CardActs.CardTypes.{both_of, is_type_of, shape_by}
+use Rattle.cjc_check_proof.specs.NCode.Lowering.Naming.{Naming}
+use Rattle.cjc_verify.specs.Components.Types.{shape_nibbles}
 use Rattle.cjc_check_proof.proofs.NarrowProofSpelt.{shape_spelt}
-use Rattle.cjc_check_proof.specs.LowerTokenProof.ByToken.Supers.{HasShape, KindsAgree}
+use Rattle.cjc_check_proof.specs.TokenProof.ByToken.Supers.{HasShape, KindsAgree}
 use Rattle.cjc_accepted_proof.specs.Frames.{SubtypesAgree, is_there, nibbles_there, type_named}
 use Rattle.cjc_accepted_proof.specs.Read.{RefsAreRead}
 

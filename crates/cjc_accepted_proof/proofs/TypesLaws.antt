@@ -13,8 +13,8 @@ use Rattle.cjc_types.specs.Working.NameLaws.{insert_cases, insert_new, insert_ol
 use Rattle.cjc_types.specs.declared.cell.Cell.{Cell}
 use Rattle.cjc_types.specs.declared.cell.Cell.TheVariants.{Number, Refs, Unusable}
 use Rattle.cjc_types.proofs.Greater.{member_passes}
-use Rattle.cjc_verify.specs.World.Classes.{Class}
-use Rattle.cjc_verify.specs.World.Subtype.{is_subtype}
+use Rattle.cjc_types.specs.World.Classes.{Class}
+use Rattle.cjc_types.specs.World.Subtype.{is_subtype}
 use Rattle.cjc_frames.specs.Acts.{Subtype}
 use Rattle.cjc_accepted_proof.specs.Frames.{card_cell, card_cells, types_named, with_type}
 use Rattle.cjc_accepted_proof.specs.Frames.{SubtypesAgree}

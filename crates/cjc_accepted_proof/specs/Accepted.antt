@@ -1,12 +1,12 @@
 -- What is left to show of what is written for a package, so that the type checker accepts it: of headers, of abstract
 -- methods, and of code.
 use Rattle.std.specs.Prelude.{◌≡◌, ℕ, List, [], length, flat_map, slice_get, Option, Some}
-use Rattle.cjc_card_acts.specs.CardTypes.{is_type_of}
+use Rattle.cjc_verify.specs.CardActs.CardTypes.{is_type_of}
 use Rattle.cjc_frames.specs.Flow.{frame_flow}
-use Rattle.cjc_frames.specs.Fixpoint.Tables.{IsClosed}
+use Rattle.cjc_types.specs.Fixpoint.Tables.{IsClosed}
 use Rattle.cjc_types.specs.declared.state.State.{State}
-use Rattle.cjc_check_proof.specs.Components.Package.{Package}
-use Rattle.cjc_check_proof.specs.LowerTokenProof.Tables.Loading.{components}
+use Rattle.cjc_verify.specs.Components.Package.{Package}
+use Rattle.cjc_check_proof.specs.TokenProof.Tables.Loading.{components}
 use Rattle.cjc_verify.specs.Bodies.{Body, bodies, frames_of}
 use Rattle.cjc_verify.specs.Headers.{header_spots}
 use Rattle.cjc_verify.specs.Infos.{all_abstract_spots}

@@ -1,18 +1,18 @@
 -- What the laws on Descriptor rest on: the types of a package are on the card, and the entries of its pool name members
 -- of their descriptors.
 use Rattle.std.specs.Prelude.{◌≡◌, ℕ, List, Some, slice_get, true}
-use Rattle.cjc_frames.specs.ClassFile.declared.tree.FieldTree.{FieldTree}
-use Rattle.cjc_verify.specs.World.Classes.{Class}
-use Rattle.cjc_verify.specs.World.Order.{class_order, methods_of_class}
-use Rattle.cjc_verify.specs.World.declared.found.Found.{Found}
-use Rattle.cjc_check_proof.specs.Script.Sorts.{signature_of}
-use Rattle.cjc_verify.specs.NCode.Lowering.Naming.{entry_of}
-use Rattle.cjc_verify.specs.NCode.declared.narrow.PoolKey.{PoolKey}
-use Rattle.cjc_check_proof.specs.Components.Class.{fields_of}
-use Rattle.cjc_check_proof.specs.Components.Descriptor.{method_in}
-use Rattle.cjc_check_proof.specs.Components.Names.{names}
-use Rattle.cjc_check_proof.specs.Components.Package.{Package, pool, world}
-use Rattle.cjc_check_proof.specs.Components.Types.{desc_of_key}
+use Rattle.cjc_types.specs.ClassFile.declared.tree.FieldTree.{FieldTree}
+use Rattle.cjc_types.specs.World.Classes.{Class}
+use Rattle.cjc_types.specs.World.Order.{class_order, methods_of_class}
+use Rattle.cjc_types.specs.World.declared.found.Found.{Found}
+use Rattle.cjc_verify.specs.Script.Sorts.{signature_of}
+use Rattle.cjc_check_proof.specs.NCode.Lowering.Naming.{entry_of}
+use Rattle.cjc_check_proof.specs.NCode.declared.narrow.PoolKey.{PoolKey}
+use Rattle.cjc_verify.specs.Components.Class.{fields_of}
+use Rattle.cjc_verify.specs.Components.Descriptor.{method_in}
+use Rattle.cjc_verify.specs.Components.Names.{names}
+use Rattle.cjc_verify.specs.Components.Package.{Package, pool, world}
+use Rattle.cjc_verify.specs.Components.Types.{desc_of_key}
 use Rattle.cjc_verify.specs.Named.{named_desc}
 use Rattle.cjc_verify.specs.Pairs.{is_card_type}
 use Rattle.cjc_accepted_proof.specs.Written.{written_pair}

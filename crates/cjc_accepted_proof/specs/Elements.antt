@@ -1,11 +1,11 @@
 -- What the card's types of arrays say of the arrays that they stand for.
 use Rattle.cjc_types.specs.Types.{held as held_by_name}
 use Rattle.std.specs.Prelude.{◌≡◌, ℕ, ◌==◌, ◌||◌, Bool, true, false, List, Option, Some, if◌then◌else◌}
-use Rattle.cjc_frames.specs.Bytecode.Jvm as jvm
+use Rattle.cjc_types.specs.Bytecode.Jvm as jvm
 use Rattle.cjc_types.specs.Rules.{is_array_for}
-use Rattle.cjc_verify.specs.World.Subtype.{starts}
-use Rattle.cjc_card_acts.specs.CardTypes.{all_arrays, arrays_of}
-use Rattle.cjc_check_proof.specs.CardSemantics.Bytecode.Effects.{Letter, Byte, Reference, Short}
+use Rattle.cjc_types.specs.World.Subtype.{starts}
+use Rattle.cjc_verify.specs.CardActs.CardTypes.{all_arrays, arrays_of}
+use Rattle.cjc_verify.specs.CardSemantics.Bytecode.Effects.{Letter, Byte, Reference, Short}
 use Rattle.cjc_frames.specs.Types.{begins_with, held}
 
 -- the letter of the card's load or store for that of the class file, of int none

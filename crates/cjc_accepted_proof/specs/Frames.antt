@@ -3,14 +3,14 @@
 use Rattle.std.specs.Prelude.{◌≡◌, ◌≤◌, ℕ, true, false, List, [], ◌∷◌, length, map, Option, Some, None, Bool, is_some}
 use Rattle.std.specs.Prelude.{if◌then◌else◌, option_and_then}
 use Rattle.std.specs.List.{AllZip}
-use Rattle.cjc_verify.specs.Bytes.Descriptor.{Part}
-use Rattle.cjc_verify.specs.Bytes.declared.descriptor.Kind.{Kind}
-use Rattle.cjc_verify.specs.Bytes.declared.descriptor.Kind.TheVariants as kinds
-use Rattle.cjc_verify.specs.Bytes.declared.fault.MemberId.{MemberId}
-use Rattle.cjc_card_acts.specs.CapRead.declared.tree.ClassRef.{ClassRef}
-use Rattle.cjc_card_acts.specs.CardTypes.{Boolean, Byte, MemberType, Reference, Short, ValueType, Void}
-use Rattle.cjc_card_acts.specs.CardTypes.{is_moved_by}
-use Rattle.cjc_check_proof.specs.CardSemantics.Bytecode.Effects.{Letter}
+use Rattle.cjc_types.specs.Bytes.Descriptor.{Part}
+use Rattle.cjc_types.specs.Bytes.declared.descriptor.Kind.{Kind}
+use Rattle.cjc_types.specs.Bytes.declared.descriptor.Kind.TheVariants as kinds
+use Rattle.cjc_types.specs.Bytes.declared.fault.MemberId.{MemberId}
+use Rattle.cjc_verify.specs.CapRead.declared.tree.ClassRef.{ClassRef}
+use Rattle.cjc_verify.specs.CardActs.CardTypes.{Boolean, Byte, MemberType, Reference, Short, ValueType, Void}
+use Rattle.cjc_verify.specs.CardActs.CardTypes.{is_moved_by}
+use Rattle.cjc_verify.specs.CardSemantics.Bytecode.Effects.{Letter}
 use Rattle.cjc_types.specs.Rules.{all_types}
 use Rattle.cjc_types.specs.Types.{is_void, parts}
 use Rattle.cjc_verify.specs.ClassTypes.{class_type}
@@ -27,12 +27,12 @@ use Rattle.cjc_types.specs.declared.state.State.{State}
 use Rattle.cjc_frames.specs.declared.acts.Act.{Act}
 use Rattle.cjc_frames.specs.Acts.{Breaks, Subtype, after, given, has_wrong, has_wrong_local, lacks_local}
 use Rattle.cjc_frames.specs.Acts.{stack_behind, with_writes}
-use Rattle.cjc_frames.specs.Bytecode.declared.insn.JOp.{JOp}
-use Rattle.cjc_check_proof.specs.Script.Sorts.{OfClass, OfNumbers, OfReferences, Shape, shape_named}
-use Rattle.cjc_verify.specs.World.Classes.{Class, class_named}
-use Rattle.cjc_verify.specs.World.Subtype.{is_subtype}
-use Rattle.cjc_check_proof.specs.Narrow.Pairs.Open.{Open, closed, begun, pushed}
-use Rattle.cjc_check_proof.specs.Components.Types.{shape_nibbles}
+use Rattle.cjc_types.specs.Bytecode.declared.insn.JOp.{JOp}
+use Rattle.cjc_verify.specs.Script.Sorts.{OfClass, OfNumbers, OfReferences, Shape, shape_named}
+use Rattle.cjc_types.specs.World.Classes.{Class, class_named}
+use Rattle.cjc_types.specs.World.Subtype.{is_subtype}
+use Rattle.cjc_verify.specs.Narrow.Pairs.Open.{Open, closed, begun, pushed}
+use Rattle.cjc_verify.specs.Components.Types.{shape_nibbles}
 
 -- ---- types
 

@@ -10,13 +10,6 @@ pub mod Plain
 pub mod Blocks
 pub mod Methods
 -- Definitions of lower crates, for those above.
-pub mod List
-pub mod ClassFile
-pub mod ExportFile
-pub mod Script
-pub mod CapRead
-pub mod Clinit
-pub mod CheckRules
-pub mod CardSemantics
-pub mod Verify
-pub mod CheckProof
+pub mod CapWrite
+pub mod CardActs
+pub mod NarrowProof

@@ -1,11 +1,11 @@
 -- What entries of static fields say of the fields that instructions name, and which letter a return has.
 use Rattle.std.specs.Prelude.{◌≡◌, ℕ, ◌==◌, true, false, List, Option, Some, None, if◌then◌else◌}
-use Rattle.cjc_frames.specs.Bytecode.Jvm as jvm
-use Rattle.cjc_verify.specs.Bytes.declared.fault.MemberId.{MemberId}
+use Rattle.cjc_types.specs.Bytecode.Jvm as jvm
+use Rattle.cjc_types.specs.Bytes.declared.fault.MemberId.{MemberId}
 use Rattle.cjc_types.specs.Types.{parts}
-use Rattle.cjc_card_acts.specs.CapRead.declared.tree.StaticRef.{StaticRef}
-use Rattle.cjc_card_acts.specs.CardTypes.{ValueType, is_moved_by}
-use Rattle.cjc_check_proof.specs.CardSemantics.Bytecode.Effects.{Letter, Reference, Short}
+use Rattle.cjc_verify.specs.CapRead.declared.tree.StaticRef.{StaticRef}
+use Rattle.cjc_verify.specs.CardActs.CardTypes.{ValueType, is_moved_by}
+use Rattle.cjc_verify.specs.CardSemantics.Bytecode.Effects.{Letter, Reference, Short}
 use Rattle.cjc_verify.specs.Named.{is_static_outside}
 use Rattle.cjc_accepted_proof.specs.Frames.{IsTypeFor}
 

@@ -1,20 +1,20 @@
 -- A method of the card beside the method of the class file that it is written for: its blocks are what is written for
 -- each reached instruction, and its frames are those of the class file's table.
-use Rattle.cjc_frames.specs.ClassFile.declared.tree.Catch.{Catch as CatchByName}
+use Rattle.cjc_types.specs.ClassFile.declared.tree.Catch.{Catch as CatchByName}
 use Rattle.std.specs.Prelude.{◌≡◌, ℕ, suc, ◌+◌, ◌<◌, ◌≤◌, true, List, [], ◌∷◌, length, slice_get, Option, Some}
 use Rattle.std.specs.Prelude.{None}
 use Rattle.std.specs.List.{Contains}
-use Rattle.cjc_frames.specs.Bytecode.declared.insn.JInsn.{JInsn}
-use Rattle.cjc_frames.specs.Fixpoint.Tables.{HasRow}
+use Rattle.cjc_types.specs.Bytecode.declared.insn.JInsn.{JInsn}
+use Rattle.cjc_types.specs.Fixpoint.Tables.{HasRow}
 use Rattle.cjc_types.specs.Flow.{Body as BodyByName, caught_type, covers as covers_by_name, entry as entry_by_name}
 use Rattle.cjc_types.specs.States.{states}
 use Rattle.cjc_types.specs.Steps.{after as after_by_name, goes_on as goes_on_by_name, targets}
 use Rattle.cjc_types.specs.declared.state.Stack.{Stack}
 use Rattle.cjc_types.specs.declared.state.Stack.TheVariants.{Cells, Clash}
 use Rattle.cjc_types.specs.declared.state.State.{State}
-use Rattle.cjc_verify.specs.NCode.Written.{Resolution, narrow_code, place_in, reached, written_for}
-use Rattle.cjc_verify.specs.NCode.declared.narrow.NInsn.{NInsn}
-use Rattle.cjc_check_proof.specs.Narrow.Pairs.Open.{Open, closed}
+use Rattle.cjc_check_proof.specs.NCode.Written.{Resolution, narrow_code, place_in, reached, written_for}
+use Rattle.cjc_check_proof.specs.NCode.declared.narrow.NInsn.{NInsn}
+use Rattle.cjc_verify.specs.Narrow.Pairs.Open.{Open, closed}
 use Rattle.cjc_frames.specs.Acts.{Subtype}
 use Rattle.cjc_frames.specs.Flow.{Body, covers, entry}
 use Rattle.cjc_frames.specs.declared.acts.Catch.{Catch}

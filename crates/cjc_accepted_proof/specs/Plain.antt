@@ -1,11 +1,11 @@
 -- Letters of loads and stores, what a jump takes, and what the act of an instruction is where it is laid.
 use Rattle.std.specs.Prelude.{ℕ, Bool, true, false, List, [], ◌∷◌}
-use Rattle.cjc_frames.specs.Bytecode.Jvm as jvm
-use Rattle.cjc_verify.specs.NCode.Lowering.Laid.{laid}
-use Rattle.cjc_verify.specs.NCode.Lowering.Naming.{Naming}
-use Rattle.cjc_verify.specs.NCode.declared.narrow.NInsn.{NInsn}
-use Rattle.cjc_card_acts.specs.CardTypes.{ValueType}
-use Rattle.cjc_check_proof.specs.CardSemantics.Bytecode.Effects.{Letter, Reference, Short}
+use Rattle.cjc_types.specs.Bytecode.Jvm as jvm
+use Rattle.cjc_check_proof.specs.NCode.Lowering.Laid.{laid}
+use Rattle.cjc_check_proof.specs.NCode.Lowering.Naming.{Naming}
+use Rattle.cjc_check_proof.specs.NCode.declared.narrow.NInsn.{NInsn}
+use Rattle.cjc_verify.specs.CardActs.CardTypes.{ValueType}
+use Rattle.cjc_verify.specs.CardSemantics.Bytecode.Effects.{Letter, Reference, Short}
 use Rattle.cjc_frames.specs.declared.acts.Act.{Act}
 use Rattle.cjc_frames.specs.declared.acts.Need.{Need}
 use Rattle.cjc_frames.specs.declared.acts.Need.TheVariants.{NumberWord, ReferenceWord}

@@ -1,11 +1,11 @@
 //! All rules: what is written for a package breaks none where its parts break none.
 ghost use Rattle.std.specs.Prelude.{◌≡◌, List};
 ghost use Rattle.cjc_check_proof.specs.Classes.Premises.{HasNearTypes};
-ghost use Rattle.cjc_check_proof.specs.Clinit.Image.{IsImage};
-ghost use Rattle.cjc_check_proof.specs.Components.Package.{Package};
-ghost use Rattle.cjc_frames.specs.Bytecode.declared.method_code.MethodCode.{MethodCode};
-ghost use Rattle.cjc_check_proof.specs.LowerTokenProof.Components.Methods.{HasMethods};
-ghost use Rattle.cjc_check_proof.specs.LowerTokenProof.Tables.Sound.{AreTyped};
+ghost use Rattle.cjc_verify.specs.Clinit.Image.{IsImage};
+ghost use Rattle.cjc_verify.specs.Components.Package.{Package};
+ghost use Rattle.cjc_types.specs.Bytecode.declared.method_code.MethodCode.{MethodCode};
+ghost use Rattle.cjc_check_proof.specs.TokenProof.Components.Methods.{HasMethods};
+ghost use Rattle.cjc_check_proof.specs.TokenProof.Tables.Sound.{AreTyped};
 ghost use Rattle.cjc_verify.specs.Verified.{IsVerified};
 ghost use Rattle.cjc_accepted_proof.specs.Accepted.{CodeStands, HasNoAbstract, HeadersFit};
 ghost use Rattle.cjc_accepted_proof.specs.Carded.{EntriesAreNamed, HasCardTypes};

@@ -1,18 +1,18 @@
 //! Rows of a method for each of which one instruction is written, or none.
 ghost use Rattle.std.specs.Prelude.{◌≡◌, ℕ, suc, List, Option, [], ◌∷◌, true, false};
 ghost use Rattle.std.specs.List.{Contains};
-ghost use Rattle.cjc_frames.specs.Bytecode.declared.insn.JInsn.{JInsn};
+ghost use Rattle.cjc_types.specs.Bytecode.declared.insn.JInsn.{JInsn};
 ghost use Rattle.cjc_types.specs.Flow.{Body};
 ghost use Rattle.cjc_types.specs.Rules.{is_off};
 ghost use Rattle.cjc_types.specs.States.{states};
 ghost use Rattle.cjc_types.specs.Steps.{after, goes_on, targets};
-ghost use Rattle.cjc_verify.specs.World.Classes.{Class};
+ghost use Rattle.cjc_types.specs.World.Classes.{Class};
 ghost use Rattle.cjc_types.specs.declared.cell.Cell.{Cell};
 ghost use Rattle.cjc_types.specs.declared.state.Stack.TheVariants.{Cells};
 ghost use Rattle.cjc_types.specs.declared.state.State.{State};
-ghost use Rattle.cjc_verify.specs.NCode.Written.{Resolution, place_in, reached, written_for};
-ghost use Rattle.cjc_verify.specs.NCode.declared.narrow.NInsn.{NInsn};
-ghost use Rattle.cjc_check_proof.specs.Narrow.Pairs.Open.{Open, closed};
+ghost use Rattle.cjc_check_proof.specs.NCode.Written.{Resolution, place_in, reached, written_for};
+ghost use Rattle.cjc_check_proof.specs.NCode.declared.narrow.NInsn.{NInsn};
+ghost use Rattle.cjc_verify.specs.Narrow.Pairs.Open.{Open, closed};
 ghost use Rattle.cjc_frames.specs.Acts.{Subtype};
 ghost use Rattle.cjc_frames.specs.declared.acts.Act.{Act};
 ghost use Rattle.cjc_frames.specs.declared.acts.Step.{Step};

@@ -1,8 +1,8 @@
 //! Arrays of StaticField: each is of the type of its field.
 ghost use Rattle.std.specs.Prelude.{◌≡◌, List, []};
-ghost use Rattle.cjc_check_proof.specs.Clinit.Image.{IsImage};
-ghost use Rattle.cjc_check_proof.specs.Components.Package.{Package};
-ghost use Rattle.cjc_frames.specs.Bytecode.declared.method_code.MethodCode.{MethodCode};
+ghost use Rattle.cjc_verify.specs.Clinit.Image.{IsImage};
+ghost use Rattle.cjc_verify.specs.Components.Package.{Package};
+ghost use Rattle.cjc_types.specs.Bytecode.declared.method_code.MethodCode.{MethodCode};
 ghost use Rattle.cjc_verify.specs.Described.{all_array_spots};
 ghost use Rattle.cjc_accepted_proof.specs.Written.{written_pair};
 

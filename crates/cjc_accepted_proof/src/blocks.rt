@@ -1,6 +1,6 @@
 //! The table of a method whose instructions are those of blocks, each written for one instruction of a class file.
 ghost use Rattle.std.specs.Prelude.{Some, length, map, List};
-ghost use Rattle.cjc_frames.specs.Fixpoint.Tables.{IsClosed};
+ghost use Rattle.cjc_types.specs.Fixpoint.Tables.{IsClosed};
 ghost use Rattle.cjc_frames.specs.Acts.{Subtype};
 ghost use Rattle.cjc_frames.specs.Flow.{Body, frame_flow};
 ghost use Rattle.cjc_accepted_proof.specs.Blocks.{AreBlocks, Block, frames_of};

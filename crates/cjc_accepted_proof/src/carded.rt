@@ -1,8 +1,8 @@
 //! Descriptors: the card has values of their types.
 ghost use Rattle.std.specs.Prelude.{◌≡◌, ◌<◌, ◌^◌, ℕ, List, Some, false, length};
-ghost use Rattle.cjc_verify.specs.Bytes.Descriptor.{Parts};
-ghost use Rattle.cjc_verify.specs.Bytes.Spots.{desc_of};
-ghost use Rattle.cjc_check_proof.specs.Subset.Types.{is_unsupported_desc};
+ghost use Rattle.cjc_types.specs.Bytes.Descriptor.{Parts};
+ghost use Rattle.cjc_types.specs.Bytes.Spots.{desc_of};
+ghost use Rattle.cjc_verify.specs.Subset.Types.{is_unsupported_desc};
 ghost use Rattle.cjc_accepted_proof.specs.Carded.{IsOnCard};
 
 /// The card has values of the types of a descriptor that names no unsupported type.

@@ -1,8 +1,8 @@
 //! Descriptor: what it says of classes, members and entries of the constant pool is what the package says.
 ghost use Rattle.std.specs.Prelude.{◌≡◌, []};
 ghost use Rattle.cjc_check_proof.specs.Classes.Premises.{HasNearTypes};
-ghost use Rattle.cjc_check_proof.specs.Components.Package.{Package};
-ghost use Rattle.cjc_check_proof.specs.LowerTokenProof.Tables.Sound.{AreTyped};
+ghost use Rattle.cjc_verify.specs.Components.Package.{Package};
+ghost use Rattle.cjc_check_proof.specs.TokenProof.Tables.Sound.{AreTyped};
 ghost use Rattle.cjc_verify.specs.Described.{described_spots};
 ghost use Rattle.cjc_accepted_proof.specs.Carded.{EntriesAreNamed, HasCardTypes};
 ghost use Rattle.cjc_accepted_proof.specs.Written.{written_pair};

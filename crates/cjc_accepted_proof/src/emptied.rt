@@ -2,12 +2,12 @@
 ghost use Rattle.std.specs.Prelude.{◌≡◌, ◌≤◌, ℕ, List, Option, [], ◌∷◌, false, length, nat_lt};
 ghost use Rattle.cjc_types.specs.Flow.{Body};
 ghost use Rattle.cjc_types.specs.States.{most_cells, stack_of};
-ghost use Rattle.cjc_verify.specs.World.Classes.{Class};
+ghost use Rattle.cjc_types.specs.World.Classes.{Class};
 ghost use Rattle.cjc_types.specs.declared.cell.Cell.{Cell};
 ghost use Rattle.cjc_types.specs.declared.state.Stack.TheVariants.{Cells};
 ghost use Rattle.cjc_types.specs.declared.state.State.{State};
-ghost use Rattle.cjc_check_proof.specs.Narrow.Pairs.Open.{closed};
-ghost use Rattle.cjc_card_acts.specs.Rows.{any_words, idle};
+ghost use Rattle.cjc_verify.specs.Narrow.Pairs.Open.{closed};
+ghost use Rattle.cjc_verify.specs.CardActs.Rows.{any_words, idle};
 ghost use Rattle.cjc_frames.specs.Acts.{Subtype};
 ghost use Rattle.cjc_frames.specs.declared.acts.Act.{Act};
 ghost use Rattle.cjc_frames.specs.declared.acts.Step.{Step};

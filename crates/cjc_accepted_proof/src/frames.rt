@@ -1,7 +1,7 @@
 //! Least tables of types of frames: they break no rule where some closed table breaks none.
 ghost use Rattle.std.specs.Prelude.{ℕ, List, Option, length};
 ghost use Rattle.cjc_types.specs.declared.state.State.{State};
-ghost use Rattle.cjc_frames.specs.Fixpoint.Tables.{IsClosed};
+ghost use Rattle.cjc_types.specs.Fixpoint.Tables.{IsClosed};
 ghost use Rattle.cjc_frames.specs.Acts.{Subtype};
 ghost use Rattle.cjc_frames.specs.Flow.{Body, frame_flow};
 ghost use Rattle.cjc_frames.specs.Tables.{IsLeastTable};

@@ -1,7 +1,7 @@
 //! Class: its infos are those of the package's classes.
 ghost use Rattle.std.specs.Prelude.{◌≡◌, []};
-ghost use Rattle.cjc_check_proof.specs.Components.Package.{Package};
-ghost use Rattle.cjc_check_proof.specs.LowerTokenProof.Components.Methods.{HasMethods};
+ghost use Rattle.cjc_verify.specs.Components.Package.{Package};
+ghost use Rattle.cjc_check_proof.specs.TokenProof.Components.Methods.{HasMethods};
 ghost use Rattle.cjc_verify.specs.Infos.{all_info_spots, all_table_spots};
 ghost use Rattle.cjc_accepted_proof.specs.Written.{written_pair};
 

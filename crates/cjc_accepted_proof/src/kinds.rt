@@ -1,25 +1,25 @@
 //! Rows of fields, calls and handlers: what entries of the constant pool say of members is what the instructions of the
 //! class file name.
 ghost use Rattle.std.specs.Prelude.{◌≡◌, ℕ, List, Option, [], ◌==◌, false};
-ghost use Rattle.cjc_verify.specs.Bytes.declared.fault.MemberId.{MemberId};
-ghost use Rattle.cjc_card_acts.specs.CapRead.declared.tree.ClassRef.{ClassRef};
-ghost use Rattle.cjc_card_acts.specs.CardTypes.{MemberType, ValueType};
+ghost use Rattle.cjc_types.specs.Bytes.declared.fault.MemberId.{MemberId};
+ghost use Rattle.cjc_verify.specs.CapRead.declared.tree.ClassRef.{ClassRef};
+ghost use Rattle.cjc_verify.specs.CardActs.CardTypes.{MemberType, ValueType};
 ghost use Rattle.cjc_frames.specs.Acts.{Subtype};
 ghost use Rattle.cjc_frames.specs.Flow.{caught};
 ghost use Rattle.cjc_frames.specs.declared.acts.Catch.{Catch};
-ghost use Rattle.cjc_frames.specs.Bytecode.Jvm.{invokestatic};
-ghost use Rattle.cjc_frames.specs.Bytecode.declared.insn.JOp.TheVariants.{Call, Field};
-ghost use Rattle.cjc_frames.specs.ClassFile.declared.tree.Catch.{Catch as CatchByName};
+ghost use Rattle.cjc_types.specs.Bytecode.Jvm.{invokestatic};
+ghost use Rattle.cjc_types.specs.Bytecode.declared.insn.JOp.TheVariants.{Call, Field};
+ghost use Rattle.cjc_types.specs.ClassFile.declared.tree.Catch.{Catch as CatchByName};
 ghost use Rattle.cjc_types.specs.Flow.{Body, caught as caught_by_name, caught_type};
 ghost use Rattle.cjc_types.specs.Rules.{has_wrong, receiver_class};
 ghost use Rattle.cjc_types.specs.States.{states};
 ghost use Rattle.cjc_types.specs.Steps.{takes};
 ghost use Rattle.cjc_types.specs.declared.cell.Cell.{Cell};
 ghost use Rattle.cjc_types.specs.declared.state.State.{State};
-ghost use Rattle.cjc_check_proof.specs.CardSemantics.Bytecode.Effects.{Letter};
-ghost use Rattle.cjc_check_proof.specs.Narrow.Pairs.Open.{Open, closed};
+ghost use Rattle.cjc_verify.specs.CardSemantics.Bytecode.Effects.{Letter};
+ghost use Rattle.cjc_verify.specs.Narrow.Pairs.Open.{Open, closed};
 ghost use Rattle.cjc_verify.specs.Instructions.{calling, calling_on, getting};
-ghost use Rattle.cjc_verify.specs.World.Classes.{Class};
+ghost use Rattle.cjc_types.specs.World.Classes.{Class};
 ghost use Rattle.cjc_accepted_proof.specs.Frames.{FieldFits, MethodFits, Mirrors, PassesFor, SubtypesAgree, card_state};
 
 /// A getfield is mirrored where its entry fits the field that it names.

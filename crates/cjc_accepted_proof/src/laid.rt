@@ -1,16 +1,16 @@
 //! The acts of what is written for instructions that name nothing, where it is laid.
 ghost use Rattle.std.specs.Prelude.{◌≡◌, ◌==◌, ℕ, ℤ, Bool, false, List, [], ◌∷◌, map};
-ghost use Rattle.cjc_frames.specs.Bytecode.Jvm.{i2b, ineg};
-ghost use Rattle.cjc_frames.specs.Bytecode.declared.insn.JOp.TheVariants.{Arith, Inc, Load, Narrow, Null, Number};
-ghost use Rattle.cjc_frames.specs.Bytecode.declared.insn.JOp.TheVariants.{Stack};
-ghost use Rattle.cjc_frames.specs.Bytecode.declared.insn.JOp.TheVariants.{Store};
+ghost use Rattle.cjc_types.specs.Bytecode.Jvm.{i2b, ineg};
+ghost use Rattle.cjc_types.specs.Bytecode.declared.insn.JOp.TheVariants.{Arith, Inc, Load, Narrow, Null, Number};
+ghost use Rattle.cjc_types.specs.Bytecode.declared.insn.JOp.TheVariants.{Stack};
+ghost use Rattle.cjc_types.specs.Bytecode.declared.insn.JOp.TheVariants.{Store};
 ghost use Rattle.cjc_types.specs.Steps.{shuffled, stack_takes};
-ghost use Rattle.cjc_verify.specs.NCode.Lowering.Naming.{Naming};
-ghost use Rattle.cjc_verify.specs.NCode.Written.{Resolution, written};
-ghost use Rattle.cjc_verify.specs.NCode.declared.narrow.NInsn.{NInsn};
-ghost use Rattle.cjc_card_acts.specs.CardTypes.{ValueType};
-ghost use Rattle.cjc_card_acts.specs.Rows.{any_words, calculating, idle, increasing, loading, pushing, storing};
-ghost use Rattle.cjc_check_proof.specs.CardSemantics.Bytecode.Effects.{Short};
+ghost use Rattle.cjc_check_proof.specs.NCode.Lowering.Naming.{Naming};
+ghost use Rattle.cjc_check_proof.specs.NCode.Written.{Resolution, written};
+ghost use Rattle.cjc_check_proof.specs.NCode.declared.narrow.NInsn.{NInsn};
+ghost use Rattle.cjc_verify.specs.CardActs.CardTypes.{ValueType};
+ghost use Rattle.cjc_verify.specs.CardActs.Rows.{any_words, calculating, idle, increasing, loading, pushing, storing};
+ghost use Rattle.cjc_verify.specs.CardSemantics.Bytecode.Effects.{Short};
 ghost use Rattle.cjc_frames.specs.declared.acts.Given.TheVariants.{ANull, ANumber, Operand};
 ghost use Rattle.cjc_verify.specs.Pairs.{Pair};
 ghost use Rattle.cjc_accepted_proof.specs.Plain.{IsStackOpcode, act_laid, letter_moving};

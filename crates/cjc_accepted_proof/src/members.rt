@@ -1,21 +1,21 @@
 //! Rows of instructions that name members, and of returns: what entries of the constant pool and types say of members
 //! is what the class file says.
 ghost use Rattle.std.specs.Prelude.{◌≡◌, ◌==◌, ℕ, List, Option, [], ◌∷◌, Bool, true, false};
-ghost use Rattle.cjc_verify.specs.Bytes.declared.fault.MemberId.{MemberId};
-ghost use Rattle.cjc_frames.specs.Bytecode.Jvm.{invokestatic};
-ghost use Rattle.cjc_frames.specs.Bytecode.declared.insn.JOp.TheVariants.{Call, Field, Return, Static};
+ghost use Rattle.cjc_types.specs.Bytes.declared.fault.MemberId.{MemberId};
+ghost use Rattle.cjc_types.specs.Bytecode.Jvm.{invokestatic};
+ghost use Rattle.cjc_types.specs.Bytecode.declared.insn.JOp.TheVariants.{Call, Field, Return, Static};
 ghost use Rattle.cjc_types.specs.Flow.{Body};
 ghost use Rattle.cjc_types.specs.Rules.{has_wrong, is_wrong_return, receiver_class};
 ghost use Rattle.cjc_types.specs.Steps.{takes};
 ghost use Rattle.cjc_types.specs.Types.{is_void, parts, result_of};
-ghost use Rattle.cjc_verify.specs.World.Classes.{Class};
+ghost use Rattle.cjc_types.specs.World.Classes.{Class};
 ghost use Rattle.cjc_types.specs.declared.cell.Cell.{Cell};
 ghost use Rattle.cjc_types.specs.declared.cell.Cell.TheVariants.{Number};
-ghost use Rattle.cjc_card_acts.specs.CapRead.declared.tree.ClassRef.{ClassRef};
-ghost use Rattle.cjc_card_acts.specs.CapRead.declared.tree.StaticRef.{StaticRef};
-ghost use Rattle.cjc_card_acts.specs.CardTypes.{MemberType, ValueType};
-ghost use Rattle.cjc_card_acts.specs.Rows.{pushing};
-ghost use Rattle.cjc_check_proof.specs.CardSemantics.Bytecode.Effects.{Letter};
+ghost use Rattle.cjc_verify.specs.CapRead.declared.tree.ClassRef.{ClassRef};
+ghost use Rattle.cjc_verify.specs.CapRead.declared.tree.StaticRef.{StaticRef};
+ghost use Rattle.cjc_verify.specs.CardActs.CardTypes.{MemberType, ValueType};
+ghost use Rattle.cjc_verify.specs.CardActs.Rows.{pushing};
+ghost use Rattle.cjc_verify.specs.CardSemantics.Bytecode.Effects.{Letter};
 ghost use Rattle.cjc_frames.specs.Acts.{Subtype};
 ghost use Rattle.cjc_frames.specs.declared.acts.Given.TheVariants.{ANumber};
 ghost use Rattle.cjc_verify.specs.Instructions.{calling, calling_on, getting_static, putting, putting_static};

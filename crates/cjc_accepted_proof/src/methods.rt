@@ -1,13 +1,13 @@
 //! The table of a method that is written for one of a class file: its frames follow from the class file's type table.
 ghost use Rattle.std.specs.Prelude.{Some, ℕ, List, Option, length, map};
-ghost use Rattle.cjc_frames.specs.Fixpoint.Tables.{IsClosed};
+ghost use Rattle.cjc_types.specs.Fixpoint.Tables.{IsClosed};
 ghost use Rattle.cjc_types.specs.Flow.{Body as BodyByName, type_flow};
 ghost use Rattle.cjc_types.specs.declared.state.State.{State};
-ghost use Rattle.cjc_verify.specs.NCode.Written.{Resolution};
-ghost use Rattle.cjc_verify.specs.NCode.declared.narrow.NInsn.{NInsn};
-ghost use Rattle.cjc_check_proof.specs.Narrow.Pairs.Open.{Open};
-ghost use Rattle.cjc_check_proof.specs.LowerNarrowProof.Tables.Analysis.{IsDecoded};
-ghost use Rattle.cjc_check_proof.specs.LowerNarrowProof.Tables.Pairs.{AreInPairs};
+ghost use Rattle.cjc_check_proof.specs.NCode.Written.{Resolution};
+ghost use Rattle.cjc_check_proof.specs.NCode.declared.narrow.NInsn.{NInsn};
+ghost use Rattle.cjc_verify.specs.Narrow.Pairs.Open.{Open};
+ghost use Rattle.cjc_check_proof.specs.NarrowProof.Tables.Analysis.{IsDecoded};
+ghost use Rattle.cjc_check_proof.specs.NarrowProof.Tables.Pairs.{AreInPairs};
 ghost use Rattle.cjc_frames.specs.Acts.{Subtype};
 ghost use Rattle.cjc_frames.specs.Flow.{Body, frame_flow};
 ghost use Rattle.cjc_frames.specs.declared.acts.Step.{Step};

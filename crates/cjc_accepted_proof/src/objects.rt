@@ -1,22 +1,22 @@
 //! Rows of instructions on objects and arrays: what they make, test, load and store is of the card's types of what the
 //! class file names.
 ghost use Rattle.std.specs.Prelude.{◌≡◌, ℕ, List, Option, Some, [], ◌∷◌, Bool, false};
-ghost use Rattle.cjc_card_acts.specs.CardTypes.{all_arrays};
-ghost use Rattle.cjc_card_acts.specs.Rows.{idle, loading_item, storing_item};
-ghost use Rattle.cjc_check_proof.specs.CardSemantics.Bytecode.Effects.{Byte, Reference, Short};
+ghost use Rattle.cjc_verify.specs.CardActs.CardTypes.{all_arrays};
+ghost use Rattle.cjc_verify.specs.CardActs.Rows.{idle, loading_item, storing_item};
+ghost use Rattle.cjc_verify.specs.CardSemantics.Bytecode.Effects.{Byte, Reference, Short};
 ghost use Rattle.cjc_frames.specs.Acts.{Subtype};
 ghost use Rattle.cjc_frames.specs.declared.acts.Given.TheVariants.{ANumber, AnObject};
 ghost use Rattle.cjc_frames.specs.declared.acts.Need.TheVariants.{NumberWord, OfArrays};
 ghost use Rattle.cjc_verify.specs.Instructions.{asking, casting, exception_needs, last, making_numbers};
-ghost use Rattle.cjc_frames.specs.Bytecode.Jvm.{aaload, aastore, baload, bastore, saload, sastore};
-ghost use Rattle.cjc_frames.specs.Bytecode.declared.insn.JOp.TheVariants.{ANewArray, ArrayLength, ArrayLoad};
-ghost use Rattle.cjc_frames.specs.Bytecode.declared.insn.JOp.TheVariants.{ArrayStore};
-ghost use Rattle.cjc_frames.specs.Bytecode.declared.insn.JOp.TheVariants.{CheckCast, InstanceOf, New, NewArray, Throw};
+ghost use Rattle.cjc_types.specs.Bytecode.Jvm.{aaload, aastore, baload, bastore, saload, sastore};
+ghost use Rattle.cjc_types.specs.Bytecode.declared.insn.JOp.TheVariants.{ANewArray, ArrayLength, ArrayLoad};
+ghost use Rattle.cjc_types.specs.Bytecode.declared.insn.JOp.TheVariants.{ArrayStore};
+ghost use Rattle.cjc_types.specs.Bytecode.declared.insn.JOp.TheVariants.{CheckCast, InstanceOf, New, NewArray, Throw};
 ghost use Rattle.cjc_types.specs.Flow.{Body};
 ghost use Rattle.cjc_types.specs.Rules.{has_wrong, throwable};
 ghost use Rattle.cjc_types.specs.Types.{array_of, letter};
 ghost use Rattle.cjc_types.specs.declared.cell.Cell.{Cell};
-ghost use Rattle.cjc_verify.specs.World.Classes.{Class};
+ghost use Rattle.cjc_types.specs.World.Classes.{Class};
 ghost use Rattle.cjc_accepted_proof.specs.Elements.{ArraysAgree};
 ghost use Rattle.cjc_accepted_proof.specs.Frames.{Mirrors, SubtypesAgree};
 

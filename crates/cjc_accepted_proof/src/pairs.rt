@@ -1,22 +1,22 @@
 //! Rows of pairs of an aload_0 and a field instruction that are written as one.
 ghost use Rattle.std.specs.Prelude.{◌≡◌, ℕ, List, ◌∷◌, Option, Some, true, false, slice_get};
-ghost use Rattle.cjc_verify.specs.Bytes.declared.fault.MemberId.{MemberId};
-ghost use Rattle.cjc_card_acts.specs.CapRead.declared.tree.ClassRef.{ClassRef};
-ghost use Rattle.cjc_card_acts.specs.CardTypes.{ValueType};
+ghost use Rattle.cjc_types.specs.Bytes.declared.fault.MemberId.{MemberId};
+ghost use Rattle.cjc_verify.specs.CapRead.declared.tree.ClassRef.{ClassRef};
+ghost use Rattle.cjc_verify.specs.CardActs.CardTypes.{ValueType};
 ghost use Rattle.cjc_frames.specs.Acts.{Subtype};
 ghost use Rattle.cjc_frames.specs.declared.acts.Act.{Act};
-ghost use Rattle.cjc_frames.specs.Bytecode.declared.insn.JOp.{JOp};
-ghost use Rattle.cjc_frames.specs.Bytecode.declared.insn.JOp.TheVariants.{Field};
+ghost use Rattle.cjc_types.specs.Bytecode.declared.insn.JOp.{JOp};
+ghost use Rattle.cjc_types.specs.Bytecode.declared.insn.JOp.TheVariants.{Field};
 ghost use Rattle.cjc_types.specs.Flow.{Body};
 ghost use Rattle.cjc_types.specs.Rules.{all_types, is_off};
 ghost use Rattle.cjc_types.specs.Steps.{after};
 ghost use Rattle.cjc_types.specs.declared.cell.Cell.{Cell};
 ghost use Rattle.cjc_types.specs.declared.state.Stack.TheVariants.{Cells};
-ghost use Rattle.cjc_check_proof.specs.CardSemantics.Bytecode.Effects.{Letter};
-ghost use Rattle.cjc_check_proof.specs.Narrow.Pairs.Open.{Open, begun, closed};
+ghost use Rattle.cjc_verify.specs.CardSemantics.Bytecode.Effects.{Letter};
+ghost use Rattle.cjc_verify.specs.Narrow.Pairs.Open.{Open, begun, closed};
 ghost use Rattle.cjc_verify.specs.ClassTypes.{class_type};
 ghost use Rattle.cjc_verify.specs.Instructions.{getting};
-ghost use Rattle.cjc_verify.specs.World.Classes.{Class};
+ghost use Rattle.cjc_types.specs.World.Classes.{Class};
 ghost use Rattle.cjc_accepted_proof.specs.Frames.{FieldFits, MirrorsInPair, Stands, SubtypesAgree, card_cell};
 ghost use Rattle.cjc_accepted_proof.specs.Frames.{card_state};
 

@@ -3,19 +3,19 @@
 ghost use Rattle.std.specs.Prelude.{◌≡◌, ◌<◌, ℕ, List, Option, [], ◌∷◌, ℤ, Bool, true, false, length, map};
 ghost use Rattle.cjc_frames.specs.Acts.{Subtype};
 ghost use Rattle.cjc_frames.specs.declared.acts.Given.TheVariants.{ANull, ANumber, Operand};
-ghost use Rattle.cjc_card_acts.specs.Rows.{any_words, calculating, idle, increasing, loading, number_words};
-ghost use Rattle.cjc_card_acts.specs.Rows.{pushing, storing};
-ghost use Rattle.cjc_check_proof.specs.CardSemantics.Bytecode.Effects.{Short};
-ghost use Rattle.cjc_frames.specs.Bytecode.Jvm.{ineg};
-ghost use Rattle.cjc_frames.specs.Bytecode.declared.insn.JCase.{JCase};
-ghost use Rattle.cjc_frames.specs.Bytecode.declared.insn.JOp.TheVariants.{Arith, Goto, If, Inc, Load, LookupSwitch};
-ghost use Rattle.cjc_frames.specs.Bytecode.declared.insn.JOp.TheVariants.{Narrow, Null, Number, Stack, Store};
-ghost use Rattle.cjc_frames.specs.Bytecode.declared.insn.JOp.TheVariants.{TableSwitch};
+ghost use Rattle.cjc_verify.specs.CardActs.Rows.{any_words, calculating, idle, increasing, loading, number_words};
+ghost use Rattle.cjc_verify.specs.CardActs.Rows.{pushing, storing};
+ghost use Rattle.cjc_verify.specs.CardSemantics.Bytecode.Effects.{Short};
+ghost use Rattle.cjc_types.specs.Bytecode.Jvm.{ineg};
+ghost use Rattle.cjc_types.specs.Bytecode.declared.insn.JCase.{JCase};
+ghost use Rattle.cjc_types.specs.Bytecode.declared.insn.JOp.TheVariants.{Arith, Goto, If, Inc, Load, LookupSwitch};
+ghost use Rattle.cjc_types.specs.Bytecode.declared.insn.JOp.TheVariants.{Narrow, Null, Number, Stack, Store};
+ghost use Rattle.cjc_types.specs.Bytecode.declared.insn.JOp.TheVariants.{TableSwitch};
 ghost use Rattle.cjc_types.specs.Flow.{Body};
 ghost use Rattle.cjc_types.specs.Rules.{has_wrong, has_wrong_local, tests_references};
 ghost use Rattle.cjc_types.specs.Steps.{compares, shuffled, stack_takes, takes};
 ghost use Rattle.cjc_types.specs.declared.cell.Cell.{Cell};
-ghost use Rattle.cjc_verify.specs.World.Classes.{Class};
+ghost use Rattle.cjc_types.specs.World.Classes.{Class};
 ghost use Rattle.cjc_accepted_proof.specs.Frames.{Mirrors};
 ghost use Rattle.cjc_accepted_proof.specs.Plain.{letter_moving, tested_words};
 

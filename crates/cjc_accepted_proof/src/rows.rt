@@ -1,20 +1,20 @@
 //! Rows of the table of written code: a written instruction breaks no rule where the one of the class file breaks none,
 //! and hands on no more than the table has behind it.
 ghost use Rattle.std.specs.Prelude.{◌≡◌, ℕ, List, Option, ◌==◌, false};
-ghost use Rattle.cjc_card_acts.specs.CapRead.declared.tree.ClassRef.{ClassRef};
+ghost use Rattle.cjc_verify.specs.CapRead.declared.tree.ClassRef.{ClassRef};
 ghost use Rattle.cjc_frames.specs.Acts.{Subtype};
 ghost use Rattle.cjc_frames.specs.declared.acts.Act.{Act};
-ghost use Rattle.cjc_card_acts.specs.Rows.{calculating};
-ghost use Rattle.cjc_frames.specs.Bytecode.Jvm.{ineg};
-ghost use Rattle.cjc_frames.specs.Bytecode.declared.insn.JOp.{JOp};
-ghost use Rattle.cjc_frames.specs.Bytecode.declared.insn.JOp.TheVariants.{Arith};
+ghost use Rattle.cjc_verify.specs.CardActs.Rows.{calculating};
+ghost use Rattle.cjc_types.specs.Bytecode.Jvm.{ineg};
+ghost use Rattle.cjc_types.specs.Bytecode.declared.insn.JOp.{JOp};
+ghost use Rattle.cjc_types.specs.Bytecode.declared.insn.JOp.TheVariants.{Arith};
 ghost use Rattle.cjc_types.specs.Flow.{Body};
 ghost use Rattle.cjc_types.specs.Rules.{has_wrong, is_off};
 ghost use Rattle.cjc_types.specs.Steps.{after};
 ghost use Rattle.cjc_types.specs.declared.cell.Cell.{Cell};
 ghost use Rattle.cjc_types.specs.declared.state.Stack.TheVariants.{Cells};
-ghost use Rattle.cjc_check_proof.specs.Narrow.Pairs.Open.{closed};
-ghost use Rattle.cjc_verify.specs.World.Classes.{Class};
+ghost use Rattle.cjc_verify.specs.Narrow.Pairs.Open.{closed};
+ghost use Rattle.cjc_types.specs.World.Classes.{Class};
 ghost use Rattle.cjc_accepted_proof.specs.Frames.{Mirrors, Stands, card_state};
 
 /// The row of an instruction outside of pairs stands where its act mirrors the instruction of the class file, whose

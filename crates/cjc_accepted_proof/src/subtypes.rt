@@ -1,9 +1,9 @@
 //! Types on the card: a subtype by name is one by token.
 ghost use Rattle.std.specs.Prelude.{List};
-ghost use Rattle.cjc_card_acts.specs.CardTypes.{is_type_of};
-ghost use Rattle.cjc_verify.specs.NCode.Lowering.Naming.{Naming};
-ghost use Rattle.cjc_check_proof.specs.LowerTokenProof.ByToken.Supers.{KindsAgree};
-ghost use Rattle.cjc_verify.specs.World.Classes.{Class};
+ghost use Rattle.cjc_verify.specs.CardActs.CardTypes.{is_type_of};
+ghost use Rattle.cjc_check_proof.specs.NCode.Lowering.Naming.{Naming};
+ghost use Rattle.cjc_check_proof.specs.TokenProof.ByToken.Supers.{KindsAgree};
+ghost use Rattle.cjc_types.specs.World.Classes.{Class};
 ghost use Rattle.cjc_accepted_proof.specs.Frames.{SubtypesAgree, type_named};
 ghost use Rattle.cjc_accepted_proof.specs.Read.{RefsAreRead};
 

@@ -4,48 +4,48 @@ use Rattle.std.proofs.Common.{◌≡◌, ℕ, zero, suc, ◌+◌, ◌<◌, ◌^�
 use Rattle.std.proofs.Common.{true, false, List, [], ◌∷◌, ◌++◌, length}
 use Rattle.std.specs.Prelude.{Option, Some, None, option_and_then, ◌||◌, ◌&&◌, not, if◌then◌else◌, is_some, slice_get}
 use Rattle.std.specs.List.{AllByRecursion, list_any}
-use Rattle.cjc_theorem.specs.Bytes.AccessFlags.{is_interface}
-use Rattle.cjc_theorem.specs.Bytes.Descriptor.{Parts}
-use Rattle.cjc_theorem.specs.Bytes.Spots.{desc_of}
-use Rattle.cjc_theorem.specs.Bytes.Breaks.{Break, RulePlace, at, each, each_from}
-use Rattle.cjc_theorem.specs.Bytes.Order.{FilePlace, file_of}
-use Rattle.cjc_theorem.specs.Bytes.declared.fault.MemberId.{MemberId}
-use Rattle.cjc_theorem.specs.Bytes.declared.settings.Settings.{Settings}
+use Rattle.cjc_verified_proof.specs.Bytes.AccessFlags.{is_interface}
+use Rattle.cjc_verified_proof.specs.Bytes.Descriptor.{Parts}
+use Rattle.cjc_verified_proof.specs.Bytes.Spots.{desc_of}
+use Rattle.cjc_verified_proof.specs.Bytes.Breaks.{Break, RulePlace, at, each, each_from}
+use Rattle.cjc_verified_proof.specs.Bytes.Order.{FilePlace, file_of}
+use Rattle.cjc_verified_proof.specs.Bytes.declared.fault.MemberId.{MemberId}
+use Rattle.cjc_verified_proof.specs.Bytes.declared.settings.Settings.{Settings}
 use Rattle.cjc_verified_proof.proofs.BytesBools.{or_right}
 use Rattle.cjc_verified_proof.proofs.BytesGets.{item_there, mapped_at}
 use Rattle.cjc_verified_proof.proofs.BytesLists.{none_left, none_right}
 use Rattle.cjc_verified_proof.proofs.BytesPlain.{same_some}
-use Rattle.cjc_accepted_proof.specs.ClassFile.declared.tree.ClassTree.{ClassTree}
-use Rattle.cjc_accepted_proof.specs.ClassFile.declared.tree.FieldTree.{FieldTree}
-use Rattle.cjc_accepted_proof.specs.ClassFile.declared.tree.MethodTree.{MethodTree}
-use Rattle.cjc_theorem.specs.Bytecode.ReadLaws.Members.{IsDescOf}
-use Rattle.cjc_theorem.specs.Bytecode.declared.insn.JOp.TheVariants as jop
-use Rattle.cjc_theorem.specs.Bytecode.declared.method_code.MethodCode.{MethodCode}
-use Rattle.cjc_theorem.specs.Components.Class.{fields_in, fields_of}
-use Rattle.cjc_theorem.specs.Components.Descriptor.{method_in}
-use Rattle.cjc_theorem.specs.Components.Package.{Package, pool, world}
-use Rattle.cjc_theorem.specs.Components.Types.{desc_of_key}
+use Rattle.cjc_verified_proof.specs.ClassFile.declared.tree.ClassTree.{ClassTree}
+use Rattle.cjc_verified_proof.specs.ClassFile.declared.tree.FieldTree.{FieldTree}
+use Rattle.cjc_verified_proof.specs.ClassFile.declared.tree.MethodTree.{MethodTree}
+use Rattle.cjc_verified_proof.specs.Bytecode.ReadLaws.Members.{IsDescOf}
+use Rattle.cjc_verified_proof.specs.Bytecode.declared.insn.JOp.TheVariants as jop
+use Rattle.cjc_verified_proof.specs.Bytecode.declared.method_code.MethodCode.{MethodCode}
+use Rattle.cjc_verified_proof.specs.Components.Class.{fields_in, fields_of}
+use Rattle.cjc_verified_proof.specs.Components.Descriptor.{method_in}
+use Rattle.cjc_verified_proof.specs.Components.Package.{Package, pool, world}
+use Rattle.cjc_verified_proof.specs.Components.Types.{desc_of_key}
 use Rattle.cjc_theorem.proofs.NarrowProofInstructions.{op_fit}
 use Rattle.cjc_theorem.proofs.NarrowProofOwn.{class_by_name}
-use Rattle.cjc_theorem.specs.NarrowProof.Laws.Unbroken.{IsInsnOf, IsUnbroken}
-use Rattle.cjc_theorem.specs.NCode.declared.narrow.PoolKey.{PoolKey}
+use Rattle.cjc_accepted_proof.specs.NarrowProof.Laws.Unbroken.{IsInsnOf, IsUnbroken}
+use Rattle.cjc_verified_proof.specs.NCode.declared.narrow.PoolKey.{PoolKey}
 use Rattle.cjc_theorem.proofs.ShapeProofDescs.{member_desc}
 use Rattle.cjc_theorem.proofs.ShapeProofFiles.{field_descs, own_unbroken, read_files}
 use Rattle.cjc_theorem.proofs.ShapeProofMeant.{added_method}
 use Rattle.cjc_theorem.proofs.ShapeProofOrder.{order_filed}
 use Rattle.cjc_theorem.proofs.ShapeProofWorlds.{own_solid}
-use Rattle.cjc_theorem.specs.Judge.Rules.{settings_of}
-use Rattle.cjc_theorem.specs.Judge.declared.judged.Judged.{Judged}
-use Rattle.cjc_theorem.specs.LowerShapeProof.Written.Converted.{IsConverted}
-use Rattle.cjc_verified_proof.specs.Subset.Checks.{check_breaks, class_breaks, code_breaks, field_breaks, has_int}
-use Rattle.cjc_verified_proof.specs.Subset.Checks.{has_unsupported}
-use Rattle.cjc_verified_proof.specs.Subset.Checks.{list_breaks, method_breaks, own_breaks}
-use Rattle.cjc_verified_proof.specs.Subset.Flags.{is_unfit_class, is_unfit_field, is_unfit_method}
-use Rattle.cjc_verified_proof.specs.Subset.Limits.{has_deep_stack, has_many_cells, has_many_interfaces, has_many_locals}
-use Rattle.cjc_verified_proof.specs.Subset.Overriding.{gets_hidden, overriding_breaks}
-use Rattle.cjc_verified_proof.specs.Subset.Places.{at_class, at_field, at_method}
-use Rattle.cjc_verified_proof.specs.Subset.Types.{is_int_desc, is_unsupported_desc, is_unsupported_name}
-use Rattle.cjc_verified_proof.specs.Subset.Types.{names_unsupported}
+use Rattle.cjc_theorem.specs.LowerJudge.Rules.{settings_of}
+use Rattle.cjc_theorem.specs.LowerJudge.declared.judged.Judged.{Judged}
+use Rattle.cjc_theorem.specs.ShapeProof.Written.Converted.{IsConverted}
+use Rattle.cjc_theorem.specs.Subset.Checks.{check_breaks, class_breaks, code_breaks, field_breaks, has_int}
+use Rattle.cjc_theorem.specs.Subset.Checks.{has_unsupported}
+use Rattle.cjc_theorem.specs.Subset.Checks.{list_breaks, method_breaks, own_breaks}
+use Rattle.cjc_theorem.specs.Subset.Flags.{is_unfit_class, is_unfit_field, is_unfit_method}
+use Rattle.cjc_theorem.specs.Subset.Limits.{has_deep_stack, has_many_cells, has_many_interfaces, has_many_locals}
+use Rattle.cjc_theorem.specs.Subset.Overriding.{gets_hidden, overriding_breaks}
+use Rattle.cjc_theorem.specs.Subset.Places.{at_class, at_field, at_method}
+use Rattle.cjc_theorem.specs.Subset.Types.{is_int_desc, is_unsupported_desc, is_unsupported_name}
+use Rattle.cjc_theorem.specs.Subset.Types.{names_unsupported}
 use Rattle.cjc_theorem.proofs.AlikeLaws.MetLaws.KeySources as sources
 use Rattle.cjc_theorem.proofs.AlikeLaws.MetLaws.KeySources.{IsMet, called, key_met}
 use Rattle.cjc_theorem.proofs.AlikeLaws.MetLaws.LaidOut.{laid_out}
@@ -53,14 +53,14 @@ use Rattle.cjc_theorem.proofs.AlikeLaws.MetLaws.Own.{Names_field, declared_by, f
 use Rattle.cjc_theorem.proofs.AlikeLaws.MetLaws.There.{special_key, virtual_key}
 use Rattle.cjc_theorem.proofs.AlikeLaws.NamedLaws.Members.{field_named, static_named, static_own}
 use Rattle.cjc_theorem.specs.Alike.Opcodes.{CallsHaveOpcodes}
-use Rattle.cjc_accepted_proof.specs.List.Listed.{ListTree}
+use Rattle.cjc_verified_proof.specs.List.Listed.{ListTree}
 use Rattle.cjc_theorem.proofs.VTableFiled.{get-has}
-use Rattle.cjc_accepted_proof.specs.ExportFile.Members.{as_desc, same_bool}
-use Rattle.cjc_theorem.specs.World.Added.{added, added_at, added_to, named_by}
-use Rattle.cjc_theorem.specs.World.Classes.{Class, Member, class_named, declared, method_of_class}
-use Rattle.cjc_theorem.specs.World.Files.{Files}
-use Rattle.cjc_theorem.specs.World.Order.{class_order, methods_of_class}
-use Rattle.cjc_theorem.specs.World.declared.found.Found.{Found}
+use Rattle.cjc_verified_proof.specs.ExportFile.Members.{as_desc, same_bool}
+use Rattle.cjc_verified_proof.specs.World.Added.{added, added_at, added_to, named_by}
+use Rattle.cjc_verified_proof.specs.World.Classes.{Class, Member, class_named, declared, method_of_class}
+use Rattle.cjc_verified_proof.specs.World.Files.{Files}
+use Rattle.cjc_verified_proof.specs.World.Order.{class_order, methods_of_class}
+use Rattle.cjc_verified_proof.specs.World.declared.found.Found.{Found}
 use Rattle.cjc_accepted_proof.specs.Carded.{HasCardTypes, IsOnCard}
 use Rattle.cjc_accepted_proof.proofs.CardedLaws.{on_card}
 use Rattle.cjc_accepted_theorem.proofs.MethodsLaws.{IsMethodOf, method_from, of_file, of_interfaces}

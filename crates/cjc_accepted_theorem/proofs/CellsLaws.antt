@@ -4,13 +4,13 @@ use Rattle.std.proofs.Common.{false, List, [], ◌∷◌, ◌++◌, length, map,
 use Rattle.std.specs.Prelude.{◌&&◌, ◌||◌, if◌then◌else◌, cond, Option, Some, None, option_map, slice_get}
 use Rattle.std.specs.List.{AllByRecursion, find, list_any}
 use Rattle.std.specs.Str.{bytes_eq}
-use Rattle.cjc_theorem.specs.Bytes.declared.fault.MemberId.{MemberId}
+use Rattle.cjc_verified_proof.specs.Bytes.declared.fault.MemberId.{MemberId}
 use Rattle.cjc_verified_proof.proofs.BytesGets.{find_got}
 use Rattle.cjc_verified_proof.proofs.BytesLists.{bytes_true, name_is}
 use Rattle.cjc_verified_proof.proofs.BytesNumbers.{like_number, number_same}
-use Rattle.cjc_theorem.specs.Components.Statics.{cell_offset, cell_order, offset_from, size_of_field}
-use Rattle.cjc_theorem.specs.NCode.PoolOrder.{same_member}
-use Rattle.cjc_theorem.specs.World.declared.image.StaticImage.{StaticImage}
+use Rattle.cjc_verified_proof.specs.Components.Statics.{cell_offset, cell_order, offset_from, size_of_field}
+use Rattle.cjc_verified_proof.specs.NCode.PoolOrder.{same_member}
+use Rattle.cjc_verified_proof.specs.World.declared.image.StaticImage.{StaticImage}
 
 -- a member that is the same one
 same_is : (f g : MemberId) → same_member f g ≡ true → f ≡ g

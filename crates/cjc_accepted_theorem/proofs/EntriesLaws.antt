@@ -1,21 +1,21 @@
 -- Entries of the constant pool name members of their keys' descriptors: those of static fields.
 use Rattle.std.proofs.Common.{◌≡◌, ℕ, refl, sym, ap, ◌∙◌, List}
 use Rattle.std.specs.Prelude.{Some, option_map}
-use Rattle.cjc_theorem.specs.Bytes.declared.fault.MemberId.{MemberId}
-use Rattle.cjc_accepted_proof.specs.CapRead.declared.tree.ClassRef.TheVariants.{Inside}
-use Rattle.cjc_accepted_proof.specs.CapRead.declared.tree.PoolEntry.TheVariants.{StaticFieldref}
-use Rattle.cjc_accepted_proof.specs.CapRead.declared.tree.StaticRef.TheVariants as statics
-use Rattle.cjc_accepted_proof.specs.CardSemantics.Machine.Classes.{Class, External, Own}
-use Rattle.cjc_accepted_proof.specs.CheckProof.Code.Members.{IsOwnCell}
-use Rattle.cjc_theorem.specs.Components.Names.{class_at, class_ref, field_token, member_ref, names, ref_to}
-use Rattle.cjc_theorem.specs.Components.Package.{Package, world}
-use Rattle.cjc_theorem.specs.Components.Statics.{cell_offset}
-use Rattle.cjc_theorem.specs.NCode.Lowering.Naming.{entry_of}
-use Rattle.cjc_theorem.specs.NCode.declared.narrow.PoolKey.TheVariants as keys
+use Rattle.cjc_verified_proof.specs.Bytes.declared.fault.MemberId.{MemberId}
+use Rattle.cjc_verified_proof.specs.CapRead.declared.tree.ClassRef.TheVariants.{Inside}
+use Rattle.cjc_verified_proof.specs.CapRead.declared.tree.PoolEntry.TheVariants.{StaticFieldref}
+use Rattle.cjc_verified_proof.specs.CapRead.declared.tree.StaticRef.TheVariants as statics
+use Rattle.cjc_verified_proof.specs.CardSemantics.Machine.Classes.{Class, External, Own}
+use Rattle.cjc_theorem.specs.CheckProof.Code.Members.{IsOwnCell}
+use Rattle.cjc_verified_proof.specs.Components.Names.{class_at, class_ref, field_token, member_ref, names, ref_to}
+use Rattle.cjc_verified_proof.specs.Components.Package.{Package, world}
+use Rattle.cjc_verified_proof.specs.Components.Statics.{cell_offset}
+use Rattle.cjc_verified_proof.specs.NCode.Lowering.Naming.{entry_of}
+use Rattle.cjc_verified_proof.specs.NCode.declared.narrow.PoolKey.TheVariants as keys
 use Rattle.cjc_verified_proof.proofs.TokenProofStarts.{ref_is_start}
-use Rattle.cjc_theorem.specs.TokenProof.Components.OwnNames.{HaveOwnNames}
-use Rattle.cjc_accepted_proof.specs.Verify.Named.{named_desc}
-use Rattle.cjc_theorem.specs.World.Order.{class_order}
+use Rattle.cjc_verified_proof.specs.TokenProof.Components.OwnNames.{HaveOwnNames}
+use Rattle.cjc_verified_proof.specs.Verify.Named.{named_desc}
+use Rattle.cjc_verified_proof.specs.World.Order.{class_order}
 use Rattle.cjc_accepted_proof.specs.Written.{written_pair}
 use Rattle.cjc_accepted_theorem.proofs.CellsLaws.{cell_found}
 

@@ -6,93 +6,94 @@ use Rattle.std.specs.List.{AllByRecursion, find, list_all, list_any}
 use Rattle.std.proofs.lemmas.List.{length-map}
 use Rattle.std.proofs.lemmas.List.Concat.{flat_map-cons}
 use Rattle.std.proofs.lemmas.Map.Keys.{any_passes_from_place}
-use Rattle.cjc_theorem.specs.Bytes.AccessFlags.{is_abstract, is_interface, is_static}
-use Rattle.cjc_theorem.specs.Bytes.Descriptor.{Parts}
-use Rattle.cjc_theorem.specs.Bytes.declared.fault.MemberId.{MemberId}
-use Rattle.cjc_theorem.specs.Bytes.Spots.{desc_of}
+use Rattle.cjc_verified_proof.specs.Bytes.AccessFlags.{is_abstract, is_interface, is_static}
+use Rattle.cjc_verified_proof.specs.Bytes.Descriptor.{Parts}
+use Rattle.cjc_verified_proof.specs.Bytes.declared.fault.MemberId.{MemberId}
+use Rattle.cjc_verified_proof.specs.Bytes.Spots.{desc_of}
 use Rattle.cjc_verified_proof.proofs.BytesBools.{not_true}
 use Rattle.cjc_verified_proof.proofs.BytesGets.{all_at, find_got, mapped_at}
 use Rattle.cjc_verified_proof.proofs.BytesNumbers.{like_number, number_same}
 use Rattle.cjc_verified_proof.proofs.BytesPlain.{same_some}
-use Rattle.cjc_accepted_proof.specs.CapRead.declared.tree.ClassDescriptor.{ClassDescriptor}
-use Rattle.cjc_accepted_proof.specs.CapRead.declared.tree.ClassRef.{ClassRef}
-use Rattle.cjc_accepted_proof.specs.CapRead.declared.tree.MethodDescriptor.{MethodDescriptor}
-use Rattle.cjc_accepted_proof.specs.CapRead.declared.tree.TypeDescriptor.{TypeDescriptor}
-use Rattle.cjc_verified_proof.specs.CardActs.CardTypes.{MemberType, type_at, type_by, type_of, types_in, width, widths}
-use Rattle.cjc_accepted_proof.specs.CardSemantics.Bytecode.Arguments as sorts
-use Rattle.cjc_accepted_proof.specs.CardSemantics.Bytecode.Machine.{Start}
-use Rattle.cjc_accepted_proof.specs.CardSemantics.Machine.Methods.{Code, start_at, start_of}
+use Rattle.cjc_verified_proof.specs.CapRead.declared.tree.ClassDescriptor.{ClassDescriptor}
+use Rattle.cjc_verified_proof.specs.CapRead.declared.tree.ClassRef.{ClassRef}
+use Rattle.cjc_verified_proof.specs.CapRead.declared.tree.MethodDescriptor.{MethodDescriptor}
+use Rattle.cjc_verified_proof.specs.CapRead.declared.tree.TypeDescriptor.{TypeDescriptor}
+use Rattle.cjc_accepted_proof.specs.CardActs.CardTypes.{MemberType, type_at, type_by, type_of, types_in, width, widths}
+use Rattle.cjc_verified_proof.specs.CardSemantics.Bytecode.Arguments as sorts
+use Rattle.cjc_verified_proof.specs.CardSemantics.Bytecode.Machine.{Start}
+use Rattle.cjc_verified_proof.specs.CardSemantics.Machine.Methods.{Code, start_at, start_of}
 use Rattle.cjc_accepted_proof.proofs.CheckProofSupers.{in_place}
 use Rattle.cjc_accepted_proof.proofs.CheckProofLists.{has-back, has-flat, has-front, has-map}
 use Rattle.cjc_accepted_proof.proofs.CheckProofTypes.{type_begins}
 use Rattle.cjc_accepted_proof.proofs.CheckProofOwnClasses.{own_classes}
-use Rattle.cjc_accepted_proof.specs.CheckRules.Codes.{whole_spots}
-use Rattle.cjc_accepted_proof.specs.CheckRules.Instructions.{jump_spots}
-use Rattle.cjc_accepted_proof.specs.CheckRules.Spots.{in_info, item_at, unless}
-use Rattle.cjc_accepted_proof.specs.CheckRules.declared.spot.ComponentPlace.{ComponentPlace}
-use Rattle.cjc_accepted_proof.specs.CheckRules.Described.{types_at}
-use Rattle.cjc_accepted_proof.specs.ClassFile.Code.{CodeTree}
-use Rattle.cjc_accepted_proof.specs.ClassFile.declared.tree.ClassTree.{ClassTree}
-use Rattle.cjc_accepted_proof.specs.ClassFile.declared.tree.MethodTree.{MethodTree}
-use Rattle.cjc_theorem.specs.Components.Descriptor.{as_added, class_descriptor, descriptor, method_descriptor}
-use Rattle.cjc_theorem.specs.Components.Descriptor.{method_in}
-use Rattle.cjc_theorem.specs.Components.Methods.{method_offset}
-use Rattle.cjc_theorem.specs.Components.Names.{class_ref}
-use Rattle.cjc_theorem.specs.Components.Package.{Package, has_applets, pool, world}
-use Rattle.cjc_theorem.specs.Components.Class.{fields_of}
-use Rattle.cjc_theorem.specs.Components.Types.{all_descs, desc_of_field, desc_of_key, descs_of_class, nibbles_by}
-use Rattle.cjc_theorem.specs.Components.Types.{nibbles_of}
-use Rattle.cjc_theorem.specs.Components.Types.{type_offset}
-use Rattle.cjc_theorem.specs.Components.Written.{added_words}
-use Rattle.cjc_theorem.specs.JvmSemantics.Linked.{Method}
-use Rattle.cjc_theorem.specs.JvmSemantics.OnePackage.{method_at, method_by}
-use Rattle.cjc_theorem.specs.JvmSemantics.OnePackage as by_file
-use Rattle.cjc_theorem.specs.NCode.Lowering.Placed.{start_on_card}
-use Rattle.cjc_theorem.specs.Narrow.Rows.Package.{flags_of}
-use Rattle.cjc_theorem.specs.Narrow.Rows.Resolved.{argument_words, method_found, parameter_words}
-use Rattle.cjc_accepted_proof.specs.Script.Sorts.{Boolean, Byte, Int, NoValue, Reference, Short, Signature, Sort}
-use Rattle.cjc_accepted_proof.specs.Script.Sorts.{result_by}
-use Rattle.cjc_accepted_proof.specs.Script.Sorts.{signature_by, signature_of, sort_of}
+use Rattle.cjc_verified_proof.specs.CheckRules.Codes.{whole_spots}
+use Rattle.cjc_verified_proof.specs.CheckRules.Instructions.{jump_spots}
+use Rattle.cjc_verified_proof.specs.CheckRules.Spots.{in_info, item_at, unless}
+use Rattle.cjc_verified_proof.specs.CheckRules.declared.spot.ComponentPlace.{ComponentPlace}
+use Rattle.cjc_verified_proof.specs.CheckRules.Described.{types_at}
+use Rattle.cjc_verified_proof.specs.ClassFile.Code.{CodeTree}
+use Rattle.cjc_verified_proof.specs.ClassFile.declared.tree.ClassTree.{ClassTree}
+use Rattle.cjc_verified_proof.specs.ClassFile.declared.tree.MethodTree.{MethodTree}
+use Rattle.cjc_verified_proof.specs.Components.Descriptor.{as_added, class_descriptor, descriptor, method_descriptor}
+use Rattle.cjc_verified_proof.specs.Components.Descriptor.{method_in}
+use Rattle.cjc_verified_proof.specs.Components.Methods.{method_offset}
+use Rattle.cjc_verified_proof.specs.Components.Names.{class_ref}
+use Rattle.cjc_verified_proof.specs.Components.Package.{Package, has_applets, pool, world}
+use Rattle.cjc_verified_proof.specs.Components.Class.{fields_of}
+use Rattle.cjc_verified_proof.specs.Components.Types.{all_descs, desc_of_field, desc_of_key, descs_of_class, nibbles_by}
+use Rattle.cjc_verified_proof.specs.Components.Types.{nibbles_of}
+use Rattle.cjc_verified_proof.specs.Components.Types.{type_offset}
+use Rattle.cjc_verified_proof.specs.Components.Written.{added_words}
+use Rattle.cjc_verified_proof.specs.JvmSemantics.Linked.{Method}
+use Rattle.cjc_verified_proof.specs.JvmSemantics.OnePackage.{method_at, method_by}
+use Rattle.cjc_verified_proof.specs.JvmSemantics.OnePackage as by_file
+use Rattle.cjc_verified_proof.specs.NCode.Lowering.Placed.{start_on_card}
+use Rattle.cjc_verified_proof.specs.Narrow.Rows.Package.{flags_of}
+use Rattle.cjc_verified_proof.specs.Narrow.Rows.Resolved.{argument_words, method_found, parameter_words}
+use Rattle.cjc_verified_proof.specs.Script.Sorts.{Boolean, Byte, Int, NoValue, Reference, Short, Signature, Sort}
+use Rattle.cjc_verified_proof.specs.Script.Sorts.{result_by}
+use Rattle.cjc_verified_proof.specs.Script.Sorts.{signature_by, signature_of, sort_of}
 use Rattle.cjc_theorem.proofs.ShapeSound.{are_ready}
 use Rattle.cjc_theorem.proofs.ShapeProofDescs.{member_desc}
 use Rattle.cjc_theorem.proofs.ShapeProofFiles.{files_sound, read_files, same_files}
 use Rattle.cjc_theorem.proofs.ShapeProofMeant.{added_method}
 use Rattle.cjc_theorem.proofs.ShapeProofOrder.{order_filed}
 use Rattle.cjc_theorem.proofs.ShapeProofWorlds.{own_solid}
-use Rattle.cjc_theorem.specs.Judge.declared.judged.Judged.{Judged}
-use Rattle.cjc_theorem.specs.LowerShapeProof.Written.Converted.{IsConverted}
+use Rattle.cjc_theorem.specs.LowerJudge.declared.judged.Judged.{Judged}
+use Rattle.cjc_theorem.specs.ShapeProof.Written.Converted.{IsConverted}
 use Rattle.cjc_theorem.proofs.AlikeLaws.MetLaws.LaidOut.{laid_out}
 use Rattle.cjc_verified_proof.proofs.TokenProofClean.{own_name}
 use Rattle.cjc_verified_proof.proofs.TokenProofOrder.{kind-in, order_has, order_in, own_names}
 use Rattle.cjc_verified_proof.proofs.TokenProofWrittenCallsBegins.{same_itself}
 use Rattle.cjc_verified_proof.proofs.TokenProofWrittenCallsWords.{Counts}
-use Rattle.cjc_theorem.specs.TokenProof.Calls.Reaching.{BeginsAtOffsets, is_in_method, is_same}
-use Rattle.cjc_accepted_proof.specs.List.Listed.{ListTree}
-use Rattle.cjc_theorem.specs.TokenProof.Tables.Sound.{IsSound}
-use Rattle.cjc_theorem.specs.TokenProof.Tables.Loading.{components, loaded, naming}
-use Rattle.cjc_theorem.specs.TokenProof.WrittenCalls.Standing.{place}
+use Rattle.cjc_verified_proof.specs.TokenProof.Calls.Reaching.{BeginsAtOffsets, is_in_method, is_same}
+use Rattle.cjc_verified_proof.specs.List.Listed.{ListTree}
+use Rattle.cjc_verified_proof.specs.TokenProof.Tables.Sound.{IsSound}
+use Rattle.cjc_verified_proof.specs.TokenProof.Tables.Loading.{components, loaded, naming}
+use Rattle.cjc_verified_proof.specs.TokenProof.WrittenCalls.Standing.{place}
 use Rattle.cjc_verified_proof.proofs.BodyLaws.{body_stands}
 use Rattle.cjc_verified_proof.proofs.DescribedLaws.{either_part}
 use Rattle.cjc_verified_proof.proofs.MethodLaws.{body_starts}
 use Rattle.cjc_verified_proof.proofs.TokenProofWrittenCallsFlags.{static_same}
 use Rattle.cjc_verified_proof.proofs.TypeLaws.{method_read, type_for}
-use Rattle.cjc_accepted_proof.specs.Verify.Bodies.{Body, bodies}
-use Rattle.cjc_accepted_proof.specs.Verify.Headers.{header_spots}
-use Rattle.cjc_accepted_proof.specs.Verify.Headers as headers
-use Rattle.cjc_accepted_proof.specs.Verify.Named.{holds}
-use Rattle.cjc_accepted_proof.specs.Verify.Pairs.{Described, Pair, described, is_card_result}
-use Rattle.cjc_accepted_proof.specs.Verify.Pairs.{is_card_sort, is_card_type, is_method_at}
-use Rattle.cjc_accepted_proof.specs.Verify.Pairs as pairs
-use Rattle.cjc_theorem.specs.Tokens.Members.{is_initialiser}
+use Rattle.cjc_verified_proof.specs.Verify.Bodies.{Body, bodies}
+use Rattle.cjc_verified_proof.specs.Verify.Headers.{header_spots}
+use Rattle.cjc_verified_proof.specs.Verify.Headers as headers
+use Rattle.cjc_verified_proof.specs.Verify.Named.{holds}
+use Rattle.cjc_verified_proof.specs.Verify.Pairs.{Described, Pair, described, is_card_result}
+use Rattle.cjc_verified_proof.specs.Verify.Pairs.{is_card_sort, is_card_type, is_method_at}
+use Rattle.cjc_verified_proof.specs.Verify.Pairs as pairs
+use Rattle.cjc_verified_proof.specs.Tokens.Members.{is_initialiser}
 use Rattle.cjc_theorem.proofs.VTableFiled.{Has, at_front, behind, get-has, has-get}
-use Rattle.cjc_theorem.specs.World.Added.{added, without_initialiser}
-use Rattle.cjc_accepted_proof.specs.ExportFile.Members.{as_desc, same_bool}
-use Rattle.cjc_theorem.specs.World.Classes.{Class, Member, all_classes, class_at, class_named, declared, field_of_class}
-use Rattle.cjc_theorem.specs.World.Classes.{method_of_class}
-use Rattle.cjc_theorem.specs.World.Files.{Files}
-use Rattle.cjc_theorem.specs.World.Lookup.{member_at}
-use Rattle.cjc_theorem.specs.World.Order.{class_order, in_order, method_order, methods_in_turn, methods_of_class}
-use Rattle.cjc_theorem.specs.World.declared.found.Found.{Found}
+use Rattle.cjc_verified_proof.specs.World.Added.{added, without_initialiser}
+use Rattle.cjc_verified_proof.specs.ExportFile.Members.{as_desc, same_bool}
+use Rattle.cjc_verified_proof.specs.World.Classes.{Class, Member, all_classes, class_at, class_named, declared}
+use Rattle.cjc_verified_proof.specs.World.Classes.{field_of_class}
+use Rattle.cjc_verified_proof.specs.World.Classes.{method_of_class}
+use Rattle.cjc_verified_proof.specs.World.Files.{Files}
+use Rattle.cjc_verified_proof.specs.World.Lookup.{member_at}
+use Rattle.cjc_verified_proof.specs.World.Order.{class_order, in_order, method_order, methods_in_turn, methods_of_class}
+use Rattle.cjc_verified_proof.specs.World.declared.found.Found.{Found}
 use Rattle.cjc_accepted_proof.specs.Accepted.{HeadersFit}
 use Rattle.cjc_accepted_proof.specs.Carded.{HasCardTypes, IsOnCard}
 use Rattle.cjc_accepted_proof.specs.Written.{written_pair}

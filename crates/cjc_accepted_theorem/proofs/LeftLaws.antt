@@ -1,20 +1,20 @@
 -- All entries of a converted package's pool name members of their keys' descriptors, where those that are left do.
 use Rattle.std.proofs.Common.{◌≡◌, ℕ, refl, sym, ap, subst, ◌∙◌, Bool, true, false, List}
 use Rattle.std.specs.Prelude.{◌||◌, Some, slice_get}
-use Rattle.cjc_theorem.specs.Bytes.AccessFlags.{is_interface, is_private, is_static}
-use Rattle.cjc_theorem.specs.Bytes.declared.fault.MemberId.{MemberId}
-use Rattle.cjc_accepted_proof.specs.CheckProof.Code.Members.{CellsFit}
-use Rattle.cjc_accepted_proof.specs.ClassFile.declared.tree.ClassTree.{ClassTree}
-use Rattle.cjc_theorem.specs.Components.Package.{Package, pool}
-use Rattle.cjc_theorem.specs.JvmSemantics.OnePackage.{is_constructor, of_class}
-use Rattle.cjc_theorem.specs.NarrowProof.Laws.Unbroken.{IsUnbroken}
-use Rattle.cjc_theorem.specs.NCode.declared.narrow.PoolKey.{PoolKey}
-use Rattle.cjc_theorem.specs.NCode.declared.narrow.PoolKey.TheVariants as keys
+use Rattle.cjc_verified_proof.specs.Bytes.AccessFlags.{is_interface, is_private, is_static}
+use Rattle.cjc_verified_proof.specs.Bytes.declared.fault.MemberId.{MemberId}
+use Rattle.cjc_theorem.specs.CheckProof.Code.Members.{CellsFit}
+use Rattle.cjc_verified_proof.specs.ClassFile.declared.tree.ClassTree.{ClassTree}
+use Rattle.cjc_verified_proof.specs.Components.Package.{Package, pool}
+use Rattle.cjc_verified_proof.specs.JvmSemantics.OnePackage.{is_constructor, of_class}
+use Rattle.cjc_accepted_proof.specs.NarrowProof.Laws.Unbroken.{IsUnbroken}
+use Rattle.cjc_verified_proof.specs.NCode.declared.narrow.PoolKey.{PoolKey}
+use Rattle.cjc_verified_proof.specs.NCode.declared.narrow.PoolKey.TheVariants as keys
 use Rattle.cjc_theorem.proofs.ShapeProofFiles.{files_sound, own_unbroken}
 use Rattle.cjc_theorem.proofs.ShapeProofWorlds.{own_solid}
-use Rattle.cjc_theorem.specs.Judge.Rules.{settings_of}
-use Rattle.cjc_theorem.specs.Judge.declared.judged.Judged.{Judged}
-use Rattle.cjc_theorem.specs.LowerShapeProof.Written.Converted.{IsConverted}
+use Rattle.cjc_theorem.specs.LowerJudge.Rules.{settings_of}
+use Rattle.cjc_theorem.specs.LowerJudge.declared.judged.Judged.{Judged}
+use Rattle.cjc_theorem.specs.ShapeProof.Written.Converted.{IsConverted}
 use Rattle.cjc_theorem.proofs.AlikeLaws.MetLaws.KeySources as sources
 use Rattle.cjc_theorem.proofs.AlikeLaws.MetLaws.KeySources.{IsMet, called, key_met}
 use Rattle.cjc_theorem.proofs.AlikeLaws.MetLaws.Own.{Names_method, own_cell_named}
@@ -23,10 +23,10 @@ use Rattle.cjc_theorem.proofs.AlikeLaws.NamedLaws.Members.{static_named}
 use Rattle.cjc_theorem.proofs.AlikeLaws.NamedLaws.Names.{fixed_in_class}
 use Rattle.cjc_theorem.specs.Alike.Opcodes.{CallsHaveOpcodes}
 use Rattle.cjc_verified_proof.proofs.TokenProofOrder.{own_names}
-use Rattle.cjc_theorem.specs.TokenProof.ByToken.Cells.{HasCells}
-use Rattle.cjc_theorem.specs.TokenProof.Components.Methods.{HasMethods}
-use Rattle.cjc_accepted_proof.specs.List.Listed.{ListTree}
-use Rattle.cjc_theorem.specs.TokenProof.Tables.Known.{order_of, statics_of}
+use Rattle.cjc_verified_proof.specs.TokenProof.ByToken.Cells.{HasCells}
+use Rattle.cjc_verified_proof.specs.TokenProof.Components.Methods.{HasMethods}
+use Rattle.cjc_verified_proof.specs.List.Listed.{ListTree}
+use Rattle.cjc_verified_proof.specs.TokenProof.Tables.Known.{order_of, statics_of}
 use Rattle.cjc_accepted_proof.specs.Carded.{EntriesAreNamed}
 use Rattle.cjc_accepted_theorem.specs.Left.{NamesItsDesc, OthersAreNamed}
 use Rattle.cjc_accepted_theorem.proofs.EntriesLaws.{cell_named}

@@ -6,21 +6,21 @@ use Rattle.std.specs.List.{AllByRecursion}
 use Rattle.cjc_verified_proof.proofs.BytesGets.{get_behind, in_front, item_there}
 use Rattle.cjc_verified_proof.proofs.BytesPlain.{same_some}
 use Rattle.cjc_verified_proof.proofs.BytesQuantified.{all_both}
-use Rattle.cjc_accepted_proof.specs.CapRead.declared.tree.ClassRef.{ClassRef}
-use Rattle.cjc_theorem.specs.Components.Descriptor.{as_added, class_descriptor, method_descriptor, method_in}
-use Rattle.cjc_theorem.specs.Components.Descriptor.{methods_with_added, no_member}
-use Rattle.cjc_theorem.specs.Components.Methods.{method_offset}
-use Rattle.cjc_theorem.specs.Components.Names.{class_ref}
-use Rattle.cjc_theorem.specs.Components.Package.{Package, world}
+use Rattle.cjc_verified_proof.specs.CapRead.declared.tree.ClassRef.{ClassRef}
+use Rattle.cjc_verified_proof.specs.Components.Descriptor.{as_added, class_descriptor, method_descriptor, method_in}
+use Rattle.cjc_verified_proof.specs.Components.Descriptor.{methods_with_added, no_member}
+use Rattle.cjc_verified_proof.specs.Components.Methods.{method_offset}
+use Rattle.cjc_verified_proof.specs.Components.Names.{class_ref}
+use Rattle.cjc_verified_proof.specs.Components.Package.{Package, world}
 use Rattle.cjc_verified_proof.proofs.DescribedLaws.{either_part}
 use Rattle.cjc_verified_proof.proofs.FoundLaws.{written_got}
-use Rattle.cjc_accepted_proof.specs.Verify.Pairs.{Described, described_among, described_in}
-use Rattle.cjc_theorem.specs.Tokens.Members.{is_initialiser}
-use Rattle.cjc_theorem.specs.World.Added.{added}
-use Rattle.cjc_theorem.specs.World.Classes.{Class, Member}
-use Rattle.cjc_theorem.specs.World.Lookup.{member_at}
-use Rattle.cjc_theorem.specs.World.Order.{methods_of_class, places, written}
-use Rattle.cjc_theorem.specs.World.declared.found.Found.{Found}
+use Rattle.cjc_verified_proof.specs.Verify.Pairs.{Described, described_among, described_in}
+use Rattle.cjc_verified_proof.specs.Tokens.Members.{is_initialiser}
+use Rattle.cjc_verified_proof.specs.World.Added.{added}
+use Rattle.cjc_verified_proof.specs.World.Classes.{Class, Member}
+use Rattle.cjc_verified_proof.specs.World.Lookup.{member_at}
+use Rattle.cjc_verified_proof.specs.World.Order.{methods_of_class, places, written}
+use Rattle.cjc_verified_proof.specs.World.declared.found.Found.{Found}
 
 places_got : (c : Class) (from n j : ℕ) (f : Found) → slice_get (places c from n) j ≡ Some f
     → (f ≡ member_at c (from + j)) × (j < n)

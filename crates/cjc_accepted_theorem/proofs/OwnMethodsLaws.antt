@@ -4,50 +4,50 @@ use Rattle.std.proofs.Common.{◌≡◌, ⊎_elim, ℕ, zero, suc, ◌+◌, ◌<
 use Rattle.std.proofs.Common.{true, false, List, [], ◌∷◌, ◌++◌, length, map}
 use Rattle.std.specs.Prelude.{◌&&◌, ◌||◌, not, cond, Option, Some, None, option_map, slice_get}
 use Rattle.std.specs.List.{AllByRecursion, find}
-use Rattle.cjc_theorem.specs.Bytes.AccessFlags.{is_interface}
-use Rattle.cjc_theorem.specs.Bytes.declared.fault.MemberId.{MemberId}
+use Rattle.cjc_verified_proof.specs.Bytes.AccessFlags.{is_interface}
+use Rattle.cjc_verified_proof.specs.Bytes.declared.fault.MemberId.{MemberId}
 use Rattle.cjc_verified_proof.proofs.BytesBools.{not_true}
 use Rattle.cjc_verified_proof.proofs.BytesGets.{all_at, find_got, get_behind, in_front}
 use Rattle.cjc_verified_proof.proofs.BytesNumbers.{like_number, number_same}
 use Rattle.cjc_verified_proof.proofs.BytesPlain.{same_some}
-use Rattle.cjc_accepted_proof.specs.CapRead.declared.tree.ClassRef.{ClassRef}
-use Rattle.cjc_accepted_proof.specs.CapRead.declared.tree.MethodDescriptor.{MethodDescriptor}
-use Rattle.cjc_accepted_proof.specs.CapRead.declared.tree.PoolEntry.TheVariants.{StaticMethodref}
+use Rattle.cjc_verified_proof.specs.CapRead.declared.tree.ClassRef.{ClassRef}
+use Rattle.cjc_verified_proof.specs.CapRead.declared.tree.MethodDescriptor.{MethodDescriptor}
+use Rattle.cjc_verified_proof.specs.CapRead.declared.tree.PoolEntry.TheVariants.{StaticMethodref}
 use Rattle.cjc_accepted_proof.proofs.CheckProofLists.{has-back, has-front}
 use Rattle.cjc_accepted_proof.proofs.CheckProofOffsets.{Left, all_left, offset_there, some_bytes, step}
 use Rattle.cjc_accepted_proof.proofs.CheckProofSupers.{in_place}
-use Rattle.cjc_accepted_proof.specs.ClassFile.declared.tree.ClassTree.{ClassTree}
-use Rattle.cjc_theorem.specs.Components.Descriptor.{as_added, class_descriptor, method_descriptor, method_in}
-use Rattle.cjc_theorem.specs.Components.Methods.{first_method, method_offset, method_size}
-use Rattle.cjc_theorem.specs.Components.Names.{class_at, class_ref, member_token, names, offset_where}
-use Rattle.cjc_theorem.specs.Components.Package.{LaidMethod, Package, world}
-use Rattle.cjc_theorem.specs.JvmSemantics.OnePackage.{of_class}
-use Rattle.cjc_theorem.specs.NCode.Lowering.Naming.{entry_of}
-use Rattle.cjc_theorem.specs.NCode.declared.narrow.PoolKey.TheVariants as keys
+use Rattle.cjc_verified_proof.specs.ClassFile.declared.tree.ClassTree.{ClassTree}
+use Rattle.cjc_verified_proof.specs.Components.Descriptor.{as_added, class_descriptor, method_descriptor, method_in}
+use Rattle.cjc_verified_proof.specs.Components.Methods.{first_method, method_offset, method_size}
+use Rattle.cjc_verified_proof.specs.Components.Names.{class_at, class_ref, member_token, names, offset_where}
+use Rattle.cjc_verified_proof.specs.Components.Package.{LaidMethod, Package, world}
+use Rattle.cjc_verified_proof.specs.JvmSemantics.OnePackage.{of_class}
+use Rattle.cjc_verified_proof.specs.NCode.Lowering.Naming.{entry_of}
+use Rattle.cjc_verified_proof.specs.NCode.declared.narrow.PoolKey.TheVariants as keys
 use Rattle.cjc_theorem.proofs.ShapeProofFiles.{files_sound}
 use Rattle.cjc_theorem.proofs.ShapeProofOrder.{order_filed}
-use Rattle.cjc_theorem.specs.Judge.declared.judged.Judged.{Judged}
-use Rattle.cjc_theorem.specs.LowerShapeProof.Written.Converted.{IsConverted}
-use Rattle.cjc_theorem.specs.Narrow.Rows.Resolved.{resolved_method}
-use Rattle.cjc_theorem.specs.NarrowProof.Laws.Unbroken.{IsInsnOf}
-use Rattle.cjc_theorem.specs.Bytecode.declared.insn.JOp.TheVariants as jop
+use Rattle.cjc_theorem.specs.LowerJudge.declared.judged.Judged.{Judged}
+use Rattle.cjc_theorem.specs.ShapeProof.Written.Converted.{IsConverted}
+use Rattle.cjc_verified_proof.specs.Narrow.Rows.Resolved.{resolved_method}
+use Rattle.cjc_accepted_proof.specs.NarrowProof.Laws.Unbroken.{IsInsnOf}
+use Rattle.cjc_verified_proof.specs.Bytecode.declared.insn.JOp.TheVariants as jop
 use Rattle.cjc_theorem.proofs.AlikeLaws.MetLaws.KeySources.{called}
 use Rattle.cjc_theorem.proofs.AlikeLaws.MetLaws.Own.{Names_method, own_method_named}
 use Rattle.cjc_verified_proof.proofs.TokenProofStarts.{ref_is_start}
 use Rattle.cjc_verified_proof.proofs.TokenProofClean.{has_named}
 use Rattle.cjc_verified_proof.proofs.TokenProofOrder.{kind-in, order_has, order_in, own_names}
-use Rattle.cjc_theorem.specs.TokenProof.Components.Methods.{HasMethods}
-use Rattle.cjc_accepted_proof.specs.List.Listed.{ListTree}
-use Rattle.cjc_theorem.specs.TokenProof.Tables.Sound.{IsSound}
-use Rattle.cjc_accepted_proof.specs.Verify.Named.{method_desc_at, named_desc}
-use Rattle.cjc_accepted_proof.specs.Verify.Pairs.{Described, Pair, described, described_among, described_in}
-use Rattle.cjc_accepted_proof.specs.Verify.Pairs.{is_method_at, member_of}
+use Rattle.cjc_verified_proof.specs.TokenProof.Components.Methods.{HasMethods}
+use Rattle.cjc_verified_proof.specs.List.Listed.{ListTree}
+use Rattle.cjc_verified_proof.specs.TokenProof.Tables.Sound.{IsSound}
+use Rattle.cjc_verified_proof.specs.Verify.Named.{method_desc_at, named_desc}
+use Rattle.cjc_verified_proof.specs.Verify.Pairs.{Described, Pair, described, described_among, described_in}
+use Rattle.cjc_verified_proof.specs.Verify.Pairs.{is_method_at, member_of}
 use Rattle.cjc_theorem.proofs.VTableFiled.{Has, at_front, behind, get-has, has-either, has-get}
-use Rattle.cjc_theorem.specs.World.Classes.{Class, Member, class_named, declared}
-use Rattle.cjc_theorem.specs.World.Added.{added}
-use Rattle.cjc_theorem.specs.World.Lookup.{find_method}
-use Rattle.cjc_theorem.specs.World.Order.{class_order, in_order, method_order, methods_in_turn, methods_of_class}
-use Rattle.cjc_theorem.specs.World.declared.found.Found.{Found}
+use Rattle.cjc_verified_proof.specs.World.Classes.{Class, Member, class_named, declared}
+use Rattle.cjc_verified_proof.specs.World.Added.{added}
+use Rattle.cjc_verified_proof.specs.World.Lookup.{find_method}
+use Rattle.cjc_verified_proof.specs.World.Order.{class_order, in_order, method_order, methods_in_turn, methods_of_class}
+use Rattle.cjc_verified_proof.specs.World.declared.found.Found.{Found}
 use Rattle.cjc_accepted_proof.specs.Written.{written_pair}
 use Rattle.cjc_accepted_theorem.proofs.CellsLaws.{found_one}
 use Rattle.cjc_accepted_theorem.proofs.EntriesLaws.{own_ref}

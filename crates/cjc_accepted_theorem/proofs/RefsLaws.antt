@@ -1,16 +1,16 @@
 -- Class_refs that are written for a package are read back from the nibbles of types as the classes that they name, so a
 -- subtype by name is one by token.
 use Rattle.std.proofs.Common.{◌≡◌, ◌∙◌, ℕ, List}
-use Rattle.cjc_accepted_proof.specs.CapRead.declared.tree.ClassRef.{ClassRef}
-use Rattle.cjc_accepted_proof.specs.CapRead.declared.tree.ClassRef.TheVariants.{Inside, Outside}
+use Rattle.cjc_verified_proof.specs.CapRead.declared.tree.ClassRef.{ClassRef}
+use Rattle.cjc_verified_proof.specs.CapRead.declared.tree.ClassRef.TheVariants.{Inside, Outside}
 use Rattle.cjc_accepted_proof.proofs.CheckProofRefs.{class_fits}
-use Rattle.cjc_accepted_proof.specs.CheckProof.Limits.Premises.{IsLimited}
-use Rattle.cjc_theorem.specs.Components.Names.{class_ref}
-use Rattle.cjc_theorem.specs.Components.Package.{Package, world}
-use Rattle.cjc_verified_proof.specs.CapWrite.Fits.{ClassFits}
+use Rattle.cjc_theorem.specs.CheckProof.Limits.Premises.{IsLimited}
+use Rattle.cjc_verified_proof.specs.Components.Names.{class_ref}
+use Rattle.cjc_verified_proof.specs.Components.Package.{Package, world}
+use Rattle.cjc_accepted_proof.specs.CapWrite.Fits.{ClassFits}
 use Rattle.cjc_verified_proof.proofs.TokenProofAbove.{says_kinds}
-use Rattle.cjc_theorem.specs.TokenProof.Tables.Loading.{naming}
-use Rattle.cjc_theorem.specs.TokenProof.Tables.Sound.{IsSound}
+use Rattle.cjc_verified_proof.specs.TokenProof.Tables.Loading.{naming}
+use Rattle.cjc_verified_proof.specs.TokenProof.Tables.Sound.{IsSound}
 use Rattle.cjc_verified_proof.proofs.PlaceLaws.{all_read}
 use Rattle.cjc_verified_proof.specs.Entries.{IsRef}
 use Rattle.cjc_accepted_proof.specs.Read.{RefsAreRead}

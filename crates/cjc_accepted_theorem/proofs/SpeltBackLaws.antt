@@ -2,25 +2,25 @@
 use Rattle.std.proofs.Common.{◌≡◌, ℕ, sym, ap, subst, ◌∙◌, List}
 use Rattle.std.specs.Prelude.{Some}
 use Rattle.cjc_verified_proof.proofs.BytesPlain.{same_some}
-use Rattle.cjc_accepted_proof.specs.CheckRules.Complete.{Complete, complete}
+use Rattle.cjc_verified_proof.specs.CheckRules.Complete.{Complete, complete}
 use Rattle.cjc_verified_proof.proofs.ClinitOneImage.{one-image}
-use Rattle.cjc_theorem.specs.Bytecode.PackageCodes.{all_codes}
-use Rattle.cjc_theorem.specs.Components.Components.{components_of}
-use Rattle.cjc_theorem.specs.Components.Package.{Package}
-use Rattle.cjc_theorem.specs.Components.Package as packages
+use Rattle.cjc_verified_proof.specs.Bytecode.PackageCodes.{all_codes}
+use Rattle.cjc_verified_proof.specs.Components.Components.{components_of}
+use Rattle.cjc_verified_proof.specs.Components.Package.{Package}
+use Rattle.cjc_verified_proof.specs.Components.Package as packages
 use Rattle.cjc_theorem.proofs.JudgeFirsts.{one_spelling}
 use Rattle.cjc_theorem.proofs.ShapeProofFiles.{same_list}
-use Rattle.cjc_theorem.specs.Judge.Rules.{files_spelt, has_applets}
-use Rattle.cjc_theorem.specs.Judge.Spelt.{FileTree, SpellTrees, classes_of}
-use Rattle.cjc_theorem.specs.Judge.declared.judged.Judged.{Judged}
-use Rattle.cjc_theorem.specs.LowerShapeProof.Written.Converted.{IsConverted}
-use Rattle.cjc_accepted_proof.specs.Clinit.Image.{IsImage}
-use Rattle.cjc_accepted_proof.specs.List.Listed.{ListTree}
-use Rattle.cjc_theorem.specs.TokenProof.Tables.Loading.{components}
-use Rattle.cjc_accepted_proof.specs.Verify.Pairs.{Pair, pair_of}
-use Rattle.cjc_accepted_proof.specs.Verify.Verified.{Breaks, IsVerified}
-use Rattle.cjc_theorem.specs.World.Files.{Files}
-use Rattle.cjc_theorem.specs.World.declared.image.StaticImage.{StaticImage}
+use Rattle.cjc_theorem.specs.LowerJudge.Rules.{files_spelt, has_applets}
+use Rattle.cjc_theorem.specs.LowerJudge.Spelt.{FileTree, SpellTrees, classes_of}
+use Rattle.cjc_theorem.specs.LowerJudge.declared.judged.Judged.{Judged}
+use Rattle.cjc_theorem.specs.ShapeProof.Written.Converted.{IsConverted}
+use Rattle.cjc_verified_proof.specs.Clinit.Image.{IsImage}
+use Rattle.cjc_verified_proof.specs.List.Listed.{ListTree}
+use Rattle.cjc_verified_proof.specs.TokenProof.Tables.Loading.{components}
+use Rattle.cjc_verified_proof.specs.Verify.Pairs.{Pair, pair_of}
+use Rattle.cjc_verified_proof.specs.Verify.Verified.{Breaks, IsVerified}
+use Rattle.cjc_verified_proof.specs.World.Files.{Files}
+use Rattle.cjc_verified_proof.specs.World.declared.image.StaticImage.{StaticImage}
 use Rattle.cjc_accepted_proof.specs.Written.{written_pair}
 
 module _ (list : ListTree) (files : List (List ℕ)) (judged : Judged) (p : Package) (is : IsConverted list files judged

@@ -1,14 +1,14 @@
 -- What is left to show of the entries of a converted package's pool.
 use Rattle.std.specs.Prelude.{◌≡◌, ℕ, List, Some, slice_get, true}
 use Rattle.std.specs.List.{AllByRecursion}
-use Rattle.cjc_theorem.specs.Components.Names.{names}
-use Rattle.cjc_theorem.specs.Components.Package.{Package, pool, world}
-use Rattle.cjc_theorem.specs.Components.Types.{desc_of_key}
-use Rattle.cjc_theorem.specs.NCode.Lowering.Naming.{entry_of}
-use Rattle.cjc_theorem.specs.NCode.declared.narrow.PoolKey.{PoolKey}
-use Rattle.cjc_theorem.specs.NCode.declared.narrow.PoolKey.TheVariants as keys
-use Rattle.cjc_accepted_proof.specs.Verify.Named.{named_desc}
-use Rattle.cjc_theorem.specs.World.Classes.{Class, class_named}
+use Rattle.cjc_verified_proof.specs.Components.Names.{names}
+use Rattle.cjc_verified_proof.specs.Components.Package.{Package, pool, world}
+use Rattle.cjc_verified_proof.specs.Components.Types.{desc_of_key}
+use Rattle.cjc_verified_proof.specs.NCode.Lowering.Naming.{entry_of}
+use Rattle.cjc_verified_proof.specs.NCode.declared.narrow.PoolKey.{PoolKey}
+use Rattle.cjc_verified_proof.specs.NCode.declared.narrow.PoolKey.TheVariants as keys
+use Rattle.cjc_verified_proof.specs.Verify.Named.{named_desc}
+use Rattle.cjc_verified_proof.specs.World.Classes.{Class, class_named}
 use Rattle.cjc_accepted_proof.specs.Written.{written_pair}
 
 -- the entry of a key names a member of the key's descriptor

@@ -1,9 +1,9 @@
 //! Types: the card has values of all types of a converted package.
 ghost use Rattle.std.specs.Prelude.{ℕ, List};
-ghost use Rattle.cjc_theorem.specs.Components.Package.{Package};
-ghost use Rattle.cjc_theorem.specs.Judge.declared.judged.Judged.{Judged};
-ghost use Rattle.cjc_accepted_proof.specs.List.Listed.{ListTree};
-ghost use Rattle.cjc_theorem.specs.LowerShapeProof.Written.Converted.{IsConverted};
+ghost use Rattle.cjc_verified_proof.specs.Components.Package.{Package};
+ghost use Rattle.cjc_theorem.specs.LowerJudge.declared.judged.Judged.{Judged};
+ghost use Rattle.cjc_verified_proof.specs.List.Listed.{ListTree};
+ghost use Rattle.cjc_theorem.specs.ShapeProof.Written.Converted.{IsConverted};
 ghost use Rattle.cjc_accepted_proof.specs.Carded.{HasCardTypes};
 
 use cjc_theorem::alike::calls_have_opcodes;

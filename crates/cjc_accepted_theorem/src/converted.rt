@@ -1,10 +1,10 @@
 //! All rules: what is written for a converted package breaks none of the type checker's, where its parts break none.
 ghost use Rattle.std.specs.Prelude.{ℕ, List};
-ghost use Rattle.cjc_theorem.specs.Components.Package.{Package};
-ghost use Rattle.cjc_theorem.specs.Judge.declared.judged.Judged.{Judged};
-ghost use Rattle.cjc_accepted_proof.specs.List.Listed.{ListTree};
-ghost use Rattle.cjc_theorem.specs.LowerShapeProof.Written.Converted.{IsConverted};
-ghost use Rattle.cjc_accepted_proof.specs.Verify.Verified.{IsVerified};
+ghost use Rattle.cjc_verified_proof.specs.Components.Package.{Package};
+ghost use Rattle.cjc_theorem.specs.LowerJudge.declared.judged.Judged.{Judged};
+ghost use Rattle.cjc_verified_proof.specs.List.Listed.{ListTree};
+ghost use Rattle.cjc_theorem.specs.ShapeProof.Written.Converted.{IsConverted};
+ghost use Rattle.cjc_verified_proof.specs.Verify.Verified.{IsVerified};
 ghost use Rattle.cjc_accepted_proof.specs.Accepted.{CodeStands, HasNoAbstract};
 ghost use Rattle.cjc_accepted_proof.specs.Written.{written_pair};
 ghost use Rattle.cjc_accepted_theorem.specs.Left.{OthersAreNamed};

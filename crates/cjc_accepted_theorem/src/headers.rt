@@ -1,9 +1,9 @@
 //! Headers: those of a converted package have the words of their methods' types.
 ghost use Rattle.std.specs.Prelude.{ℕ, List};
-ghost use Rattle.cjc_theorem.specs.Components.Package.{Package};
-ghost use Rattle.cjc_theorem.specs.Judge.declared.judged.Judged.{Judged};
-ghost use Rattle.cjc_accepted_proof.specs.List.Listed.{ListTree};
-ghost use Rattle.cjc_theorem.specs.LowerShapeProof.Written.Converted.{IsConverted};
+ghost use Rattle.cjc_verified_proof.specs.Components.Package.{Package};
+ghost use Rattle.cjc_theorem.specs.LowerJudge.declared.judged.Judged.{Judged};
+ghost use Rattle.cjc_verified_proof.specs.List.Listed.{ListTree};
+ghost use Rattle.cjc_theorem.specs.ShapeProof.Written.Converted.{IsConverted};
 ghost use Rattle.cjc_accepted_proof.specs.Accepted.{HeadersFit};
 
 use crate::carded::converted_packages_have_card_types;

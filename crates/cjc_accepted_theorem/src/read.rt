@@ -1,11 +1,11 @@
 //! Class_refs in types: those that are written are read back as the classes that they name.
 ghost use Rattle.std.specs.Prelude.{ℕ, List};
-ghost use Rattle.cjc_theorem.specs.Components.Package.{Package, world};
-ghost use Rattle.cjc_theorem.specs.Judge.declared.judged.Judged.{Judged};
-ghost use Rattle.cjc_accepted_proof.specs.List.Listed.{ListTree};
-ghost use Rattle.cjc_theorem.specs.TokenProof.Tables.Loading.{naming};
-ghost use Rattle.cjc_theorem.specs.LowerShapeProof.Written.Converted.{IsConverted};
-ghost use Rattle.cjc_verified_proof.specs.CardActs.CardTypes.{is_type_of};
+ghost use Rattle.cjc_verified_proof.specs.Components.Package.{Package, world};
+ghost use Rattle.cjc_theorem.specs.LowerJudge.declared.judged.Judged.{Judged};
+ghost use Rattle.cjc_verified_proof.specs.List.Listed.{ListTree};
+ghost use Rattle.cjc_verified_proof.specs.TokenProof.Tables.Loading.{naming};
+ghost use Rattle.cjc_theorem.specs.ShapeProof.Written.Converted.{IsConverted};
+ghost use Rattle.cjc_accepted_proof.specs.CardActs.CardTypes.{is_type_of};
 ghost use Rattle.cjc_accepted_proof.specs.Frames.{SubtypesAgree, type_named};
 ghost use Rattle.cjc_accepted_proof.specs.Read.{RefsAreRead};
 

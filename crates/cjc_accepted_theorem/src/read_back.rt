@@ -1,19 +1,19 @@
 //! What is read back: the type checker finds nothing in the components that are written for a converted package, beside
 //! the files that it was converted from.
 ghost use Rattle.std.specs.Prelude.{◌≡◌, ℕ, List, Some};
-ghost use Rattle.cjc_accepted_proof.specs.CheckRules.Complete.{Complete, complete};
-ghost use Rattle.cjc_theorem.specs.Bytecode.PackageCodes.{all_codes};
-ghost use Rattle.cjc_theorem.specs.Components.Components.{components_of};
-ghost use Rattle.cjc_theorem.specs.Components.Package.{Package};
-ghost use Rattle.cjc_theorem.specs.Judge.Rules.{files_spelt, has_applets};
-ghost use Rattle.cjc_theorem.specs.Judge.Spelt.{FileTree, SpellTrees, classes_of};
-ghost use Rattle.cjc_theorem.specs.Judge.declared.judged.Judged.{Judged};
-ghost use Rattle.cjc_theorem.specs.LowerShapeProof.Written.Converted.{IsConverted};
-ghost use Rattle.cjc_accepted_proof.specs.Clinit.Image.{IsImage};
-ghost use Rattle.cjc_accepted_proof.specs.List.Listed.{ListTree};
-ghost use Rattle.cjc_accepted_proof.specs.Verify.Pairs.{pair_of};
-ghost use Rattle.cjc_accepted_proof.specs.Verify.Verified.{IsVerified};
-ghost use Rattle.cjc_theorem.specs.World.declared.image.StaticImage.{StaticImage};
+ghost use Rattle.cjc_verified_proof.specs.CheckRules.Complete.{Complete, complete};
+ghost use Rattle.cjc_verified_proof.specs.Bytecode.PackageCodes.{all_codes};
+ghost use Rattle.cjc_verified_proof.specs.Components.Components.{components_of};
+ghost use Rattle.cjc_verified_proof.specs.Components.Package.{Package};
+ghost use Rattle.cjc_theorem.specs.LowerJudge.Rules.{files_spelt, has_applets};
+ghost use Rattle.cjc_theorem.specs.LowerJudge.Spelt.{FileTree, SpellTrees, classes_of};
+ghost use Rattle.cjc_theorem.specs.LowerJudge.declared.judged.Judged.{Judged};
+ghost use Rattle.cjc_theorem.specs.ShapeProof.Written.Converted.{IsConverted};
+ghost use Rattle.cjc_verified_proof.specs.Clinit.Image.{IsImage};
+ghost use Rattle.cjc_verified_proof.specs.List.Listed.{ListTree};
+ghost use Rattle.cjc_verified_proof.specs.Verify.Pairs.{pair_of};
+ghost use Rattle.cjc_verified_proof.specs.Verify.Verified.{IsVerified};
+ghost use Rattle.cjc_verified_proof.specs.World.declared.image.StaticImage.{StaticImage};
 ghost use Rattle.cjc_accepted_proof.specs.Written.{written_pair};
 
 use cjc_accepted_proof::check_proof::code::components_are_whole;

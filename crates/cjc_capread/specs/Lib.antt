@@ -21,4 +21,4 @@ pub mod Kinds
 pub mod Working
 pub mod Decoder
 -- Definitions of lower crates, for those above.
-pub mod LowerBytes
+pub mod Bytes

@@ -1,10 +1,15 @@
 pub mod Working
 pub mod Trees
 -- Definitions of lower crates, for those above.
-pub mod Script
-pub mod CapRead
-pub mod World
-pub mod Components
-pub mod Classes
-pub mod Pool
-pub mod Methods
+pub mod Bytes
+pub mod List
+pub mod ClassFile
+pub mod ExportFile
+pub mod CapWrite
+pub mod ClassOrder
+pub mod Tokens
+pub mod CheckRules
+pub mod NCode
+pub mod Layout
+pub mod LowerClasses
+pub mod LowerMethods

@@ -2,11 +2,11 @@
 //! whoever writes Class, Descriptor, Applet, Export and ConstantPool finds it without a search. It knows no
 //! token and no byte.
 ghost use Rattle.std.specs.Prelude.{◌≡◌, ◌≤◌, ◌<◌, ◌+◌, ℕ, List, Some, false, length, map};
-ghost use Rattle.cjc_classes.specs.World.Classes.{Class, all_classes, class_at};
-ghost use Rattle.cjc_classes.specs.World.Lookup.{member_at};
-ghost use Rattle.cjc_classes.specs.World.Order.{method_order};
-ghost use Rattle.cjc_classes.specs.Components.Methods.{method_offset};
-ghost use Rattle.cjc_classes.specs.Components.Package.{Package, world};
+ghost use Rattle.cjc_exported.specs.World.Classes.{Class, all_classes, class_at};
+ghost use Rattle.cjc_exported.specs.World.Lookup.{member_at};
+ghost use Rattle.cjc_exported.specs.World.Order.{method_order};
+ghost use Rattle.cjc_exported.specs.Components.Methods.{method_offset};
+ghost use Rattle.cjc_exported.specs.Components.Package.{Package, world};
 ghost use Rattle.cjc_methods.specs.Ready.{AreOrdered};
 ghost use Rattle.cjc_classes.specs.ClassInfo.Entries.{AreOffsets};
 ghost use Rattle.cjc_exported.specs.ExportFile.Offsets.{offset_at};

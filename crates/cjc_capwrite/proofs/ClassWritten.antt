@@ -5,7 +5,7 @@ use Rattle.std.specs.List.{flat_map, AllByRecursion}
 use Rattle.std.proofs.lemmas.Bool.{lt-ltb, le-ltb}
 use Rattle.std.proofs.lemmas.List.{append-nil}
 use Rattle.std.proofs.lemmas.List.Concat.{flat_map-cons}
-use Rattle.cjc_capread.specs.LowerBytes.Format.{Format}
+use Rattle.cjc_capread.specs.Bytes.Format.{Format}
 use Rattle.cjc_capread.proofs.BytesWriters.{Writes, then_writes, last_writes, here_writes, gives_writes, number1_writes}
 use Rattle.cjc_capread.proofs.BytesWriters.{u1_writes, repeated_writes}
 use Rattle.cjc_capread.specs.declared.tree.ClassInfo.{ClassInfo}

@@ -17,7 +17,7 @@ use Rattle.cjc_capread.specs.declared.tree.FieldType.TheVariants as types
 use Rattle.cjc_capread.specs.declared.tree.MethodDescriptor.{MethodDescriptor}
 use Rattle.cjc_capread.specs.declared.tree.TypeDescriptor.{TypeDescriptor}
 use Rattle.cjc_capread.specs.Parts.{exactly}
-use Rattle.cjc_capread.specs.LowerBytes.AccessFlags.{is_static}
+use Rattle.cjc_capread.specs.Bytes.AccessFlags.{is_static}
 use Rattle.cjc_capread.specs.Descriptor.{field_place, type_of, field_descriptor, method_descriptor, class_descriptor}
 use Rattle.cjc_capread.specs.Descriptor.{two_nibbles, high_nibble, ended, type_descriptor, descriptor}
 use Rattle.cjc_capwrite.specs.Parts.{one, two, class_bytes}

@@ -1,7 +1,7 @@
 -- A file of what spells an info spells the component.
 use Rattle.std.proofs.Common.{◌≡◌, ℕ, ◌+◌, true, eqb, List, length, Some, refl, arith}
 use Rattle.std.proofs.lemmas.Bool.{eq-eqb}
-use Rattle.cjc_capread.specs.LowerBytes.Format.{FileSpells}
+use Rattle.cjc_capread.specs.Bytes.Format.{FileSpells}
 use Rattle.cjc_capread.proofs.BytesWriters.{Writes, then_writes, last_writes, number1_writes}
 use Rattle.cjc_capread.specs.declared.tree.Component.{Component}
 use Rattle.cjc_capread.specs.declared.tree.Component.TheVariants as components

@@ -4,7 +4,7 @@ use Rattle.std.proofs.Common.{Option, Some, None, refl, sym, ap, subst, ◌∙�
 use Rattle.std.specs.Int.{w16, to_be_bytes}
 use Rattle.std.specs.List.{flat_map, AllByRecursion}
 use Rattle.std.proofs.lemmas.Bool.{lt-ltb, le-ltb, ne_eqb}
-use Rattle.cjc_capread.specs.LowerBytes.Format.{Spells, number, repeated, u1, u2}
+use Rattle.cjc_capread.specs.Bytes.Format.{Spells, number, repeated, u1, u2}
 use Rattle.cjc_capread.proofs.BytesWriters.{Writes, then_writes, last_writes, number1_writes, number2_writes, u1_writes}
 use Rattle.cjc_capread.proofs.BytesWriters.{u2_writes, raw_writes, repeated_writes}
 use Rattle.cjc_capread.specs.declared.tree.ClassRef.{ClassRef}

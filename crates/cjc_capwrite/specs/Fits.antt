@@ -35,7 +35,7 @@ use Rattle.cjc_capread.specs.declared.tree.FieldType.{FieldType}
 use Rattle.cjc_capread.specs.declared.tree.FieldType.TheVariants as types
 use Rattle.cjc_capread.specs.declared.tree.MethodDescriptor.{MethodDescriptor}
 use Rattle.cjc_capread.specs.declared.tree.TypeDescriptor.{TypeDescriptor}
-use Rattle.cjc_capread.specs.LowerBytes.AccessFlags.{is_static}
+use Rattle.cjc_capread.specs.Bytes.AccessFlags.{is_static}
 
 -- in one byte, or in two
 abbrev pub Fits1 : ℕ → Type 0

@@ -10,3 +10,5 @@ pub mod Fits
 pub mod Files
 pub mod Writable
 pub mod Size
+-- Definitions of lower crates, for those above.
+pub mod CapRead

@@ -1,6 +1,6 @@
 -- Trees that can be written, and files that spell them.
 use Rattle.std.specs.Prelude.{ℕ, List, length, Option, Some, None, IfSome, IsSomeAnd}
-use Rattle.cjc_capread.specs.LowerBytes.Format.{FileSpells}
+use Rattle.cjc_capread.specs.Bytes.Format.{FileSpells}
 use Rattle.cjc_capread.specs.declared.tree.CapTree.{CapTree}
 use Rattle.cjc_capread.specs.declared.tree.Component.{Component}
 use Rattle.cjc_capread.specs.declared.tree.Component.TheVariants as components

@@ -1,8 +1,8 @@
 //! Whole component files. Called by whoever converts a package; it knows the tree alone, and no class file.
 
 ghost use Rattle.std.specs.Prelude.{◌≡◌, ◌≤◌, ◌++◌, length, Some, None, is_some, IfOk, IfErr, OnOk, ◌⊎◌, ℕ};
-ghost use Rattle.cjc_capread.specs.LowerBytes.Refused.{refusal};
-ghost use Rattle.cjc_capread.specs.LowerBytes.declared.fault.Fault.TheVariants as faults;
+ghost use Rattle.cjc_capread.specs.Bytes.Refused.{refusal};
+ghost use Rattle.cjc_capread.specs.Bytes.declared.fault.Fault.TheVariants as faults;
 ghost use Rattle.cjc_capwrite.specs.Package.{header_bytes, directory_bytes, applet_bytes, import_bytes};
 ghost use Rattle.cjc_capwrite.specs.Pool.{pool_bytes};
 ghost use Rattle.cjc_capwrite.specs.Class.{class_info_bytes};

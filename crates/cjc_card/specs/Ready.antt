@@ -5,8 +5,8 @@ use Rattle.cjc_card_calls.specs.Files.Files.{AreFiles}
 use Rattle.cjc_card_calls.specs.declared.lines.lines.Lines.{Lines}
 use Rattle.cjc_card_calls.specs.Lines.Handlers.{are_all_near}
 use Rattle.cjc_card_calls.specs.Lines.Lines.{AreLines}
-use Rattle.cjc_card_calls.specs.CardLink.declared.tables.Tables.{Tables}
-use Rattle.cjc_card_calls.specs.CardLink.Tables.{AreKept, loaded_of}
+use Rattle.cjc_card_calls.specs.LowerCardLink.declared.tables.Tables.{Tables}
+use Rattle.cjc_card_calls.specs.LowerCardLink.Tables.{AreKept, loaded_of}
 
 -- The tables are those of the package, and the lines and the files those of the group; 32 bits count the offsets of
 -- handlers.

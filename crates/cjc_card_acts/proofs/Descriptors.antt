@@ -6,7 +6,7 @@ use Rattle.std.proofs.lemmas.List.Sums.{sum_by-cons}
 use Rattle.std.proofs.lemmas.Slice.{between_to_end}
 use Rattle.std.specs.Prelude.{if◌then◌else◌}
 use Rattle.std.specs.List.{find}
-use Rattle.cjc_card_frame.specs.CapRead.declared.tree.TypeDescriptor.{TypeDescriptor}
+use Rattle.cjc_check_rules.specs.CapRead.declared.tree.TypeDescriptor.{TypeDescriptor}
 use Rattle.cjc_check_rules.specs.Complete.{type_size}
 use Rattle.cjc_check_rules.specs.Spots.{Placed, item_at, placed}
 use Rattle.cjc_check_rules.proofs.BytesNumbers.{number_same_number, other_number}

@@ -8,16 +8,16 @@ use Rattle.cjc_frames.specs.declared.acts.Need.{Need}
 use Rattle.cjc_frames.specs.declared.acts.Need.TheVariants.{NumberWord, OfType}
 use Rattle.cjc_frames.specs.declared.acts.Given.{Given}
 use Rattle.cjc_frames.specs.declared.acts.Given.TheVariants.{ANumber, AnObject}
-use Rattle.cjc_card_frame.specs.CapRead.declared.tree.Descriptor.{Descriptor}
-use Rattle.cjc_card_frame.specs.CapRead.declared.tree.TypeDescriptor.{TypeDescriptor}
-use Rattle.cjc_card_frame.specs.CapRead.Parts.{class_of}
-use Rattle.cjc_card_frame.specs.CardSemantics.Bytecode.Effects.{Letter}
-use Rattle.cjc_card_frame.specs.CardSemantics.Bytecode.Effects
-use Rattle.cjc_card_frame.specs.CardSemantics.Machine.Loaded.{Loaded}
-use Rattle.cjc_card_frame.specs.CardSemantics.Machine.Classes.{Class}
-use Rattle.cjc_card_frame.specs.CardSemantics.Machine.Classes
-use Rattle.cjc_card_frame.specs.Script.Sorts.{Shape, OfClass, OfNumbers, OfReferences, Booleans, Bytes, Shorts}
-use Rattle.cjc_card_frame.specs.Script.Sorts.{Ints}
+use Rattle.cjc_check_rules.specs.CapRead.declared.tree.Descriptor.{Descriptor}
+use Rattle.cjc_check_rules.specs.CapRead.declared.tree.TypeDescriptor.{TypeDescriptor}
+use Rattle.cjc_check_rules.specs.CapRead.Parts.{class_of}
+use Rattle.cjc_card_frame.specs.LowerCardSemantics.Bytecode.Effects.{Letter}
+use Rattle.cjc_card_frame.specs.LowerCardSemantics.Bytecode.Effects
+use Rattle.cjc_card_frame.specs.LowerCardSemantics.Machine.Loaded.{Loaded}
+use Rattle.cjc_card_frame.specs.LowerCardSemantics.Machine.Classes.{Class}
+use Rattle.cjc_card_frame.specs.LowerCardSemantics.Machine.Classes
+use Rattle.cjc_card_frame.specs.LowerScript.Sorts.{Shape, OfClass, OfNumbers, OfReferences, Booleans, Bytes, Shorts}
+use Rattle.cjc_card_frame.specs.LowerScript.Sorts.{Ints}
 use Rattle.cjc_check_rules.specs.Spots.{item_at}
 use Rattle.cjc_check_rules.specs.Described.{types_at}
 

@@ -2,8 +2,9 @@ pub mod CardTypes
 pub mod Told
 pub mod Rows
 -- Definitions of lower crates, for those above.
-pub mod Bytecode
-pub mod CapRead
-pub mod LowerCheckRules
-pub mod Types
-pub mod Frames
+pub mod Script
+pub mod CheckRules
+pub mod CardSemantics
+pub mod JvmSemantics
+pub mod CardFrame
+pub mod LowerFrames

@@ -3,11 +3,11 @@
 use Rattle.std.specs.Prelude.{ℕ, ◌+◌, ◌/◌, ◌%◌, ◌==◌, ◌&&◌, Bool, true, false, List, [], ◌∷◌, ◌++◌, map, replicate}
 use Rattle.std.specs.Prelude.{slice_get, Option, Some, None, if◌then◌else◌, ℤ, pos}
 use Rattle.std.specs.List.{range_with_len}
-use Rattle.cjc_card_frame.specs.CardSemantics.Bytecode.Calculations.{is_copy, is_swap}
-use Rattle.cjc_card_frame.specs.CardSemantics.Bytecode.Effects.{Letter, Reference, Byte, Short, Int}
-use Rattle.cjc_card_frame.specs.CardSemantics.Bytecode.Meanings.{Use, Gets, Puts, GetsStatic, PutsStatic, Calls}
-use Rattle.cjc_card_frame.specs.CardSemantics.Bytecode.Meanings.{Makes}
-use Rattle.cjc_card_frame.specs.CardSemantics.Bytecode.Meanings.{MakesReferences, Virtual, Special, Static}
+use Rattle.cjc_card_frame.specs.LowerCardSemantics.Bytecode.Calculations.{is_copy, is_swap}
+use Rattle.cjc_card_frame.specs.LowerCardSemantics.Bytecode.Effects.{Letter, Reference, Byte, Short, Int}
+use Rattle.cjc_card_frame.specs.LowerCardSemantics.Bytecode.Meanings.{Use, Gets, Puts, GetsStatic, PutsStatic, Calls}
+use Rattle.cjc_card_frame.specs.LowerCardSemantics.Bytecode.Meanings.{Makes}
+use Rattle.cjc_card_frame.specs.LowerCardSemantics.Bytecode.Meanings.{MakesReferences, Virtual, Special, Static}
 use Rattle.cjc_frames.specs.declared.acts.Need.{Need}
 use Rattle.cjc_frames.specs.declared.acts.Need.TheVariants.{AnyWord, NumberWord, ReferenceWord, OfArrays}
 use Rattle.cjc_frames.specs.declared.acts.Given.{Given}

@@ -5,8 +5,8 @@ ghost use Rattle.cjc_card_acts.specs.Rows.{calculating, copying, copying_below, 
 ghost use Rattle.cjc_card_acts.specs.Rows.{loading_item, pushing, storing, storing_item, swapping, swapping_by};
 ghost use Rattle.cjc_card_acts.specs.Rows.{unknown};
 ghost use Rattle.cjc_card_frame.specs.Meanings.{letter_of};
-ghost use Rattle.cjc_card_frame.specs.CardSemantics.Bytecode.Calculations.{is_copy, is_swap};
-ghost use Rattle.cjc_card_frame.specs.CardSemantics.Bytecode.Effects.{Int, Short};
+ghost use Rattle.cjc_card_frame.specs.LowerCardSemantics.Bytecode.Calculations.{is_copy, is_swap};
+ghost use Rattle.cjc_card_frame.specs.LowerCardSemantics.Bytecode.Effects.{Int, Short};
 
 use crate::words;
 use cjc_card_frame::opcodes::Letter;

@@ -1,8 +1,8 @@
 -- What the code puts into static cells.
 use Rattle.std.specs.Prelude.{ℤ, FitsSigned}
 use Rattle.std.specs.Int.{w8, w16}
-use Rattle.cjc_card_semantics.specs.LowerScript.declared.value.Value.{Value}
-use Rattle.cjc_card_semantics.specs.LowerScript.declared.value.Value.TheVariants.{Num}
+use Rattle.cjc_card_semantics.specs.Script.declared.value.Value.{Value}
+use Rattle.cjc_card_semantics.specs.Script.declared.value.Value.TheVariants.{Num}
 use Rattle.cjc_card_semantics.specs.Bytecode.Effects.{Letter, Byte, Short}
 
 -- a number that is put by a letter fits its bytes

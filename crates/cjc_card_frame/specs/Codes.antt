@@ -1,6 +1,6 @@
 -- The instruction at an offset by the bytes of a package's methods alone.
 use Rattle.std.specs.Prelude.{ℕ, ◌+◌, ◌-◌, List, [], drop, Option, Some, None, option_and_then, nat_le, if◌then◌else◌}
-use Rattle.cjc_jvm_step.specs.CapRead.Decode.{Instruction, decode, size}
+use Rattle.cjc_card_semantics.specs.CapRead.Decode.{Instruction, decode, size}
 
 -- the bytes from an offset on, where the first of the methods has another
 abbrev pub bytes_at : (methods : List ℕ) (begin at : ℕ) → List ℕ

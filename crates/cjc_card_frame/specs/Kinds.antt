@@ -1,9 +1,9 @@
 -- What data of methods, calls and static cells stands for, and what the entries of a package's constant pool name.
 use Rattle.std.specs.Prelude.{◌≡◌, ℕ, List, [], Option, Some, None, option_map, slice_get}
-use Rattle.cjc_jvm_step.specs.Bytes.declared.fault.MemberId.{MemberId}
-use Rattle.cjc_jvm_step.specs.CapRead.Decode.{Instruction, decode}
-use Rattle.cjc_jvm_step.specs.CapRead.declared.tree.PoolEntry.{PoolEntry}
-use Rattle.cjc_jvm_step.specs.CapRead.declared.tree.PoolEntry.TheVariants.{InstanceFieldref, StaticFieldref}
+use Rattle.cjc_card_semantics.specs.Bytes.declared.fault.MemberId.{MemberId}
+use Rattle.cjc_card_semantics.specs.CapRead.Decode.{Instruction, decode}
+use Rattle.cjc_card_semantics.specs.CapRead.declared.tree.PoolEntry.{PoolEntry}
+use Rattle.cjc_card_semantics.specs.CapRead.declared.tree.PoolEntry.TheVariants.{InstanceFieldref, StaticFieldref}
 use Rattle.cjc_card_semantics.specs.Bytecode.Machine.{Start, Reached}
 use Rattle.cjc_card_semantics.specs.Bytecode.Machine
 use Rattle.cjc_card_semantics.specs.Machine.Loaded.{Part, Loaded, CellName}

@@ -5,13 +5,9 @@ pub mod Objects
 pub mod Cells
 pub mod Kinds
 -- Definitions of lower crates, for those above.
-pub mod Bytes
-pub mod Range
-pub mod ClassFile
-pub mod LowerBytecode
-pub mod ExportFile
-pub mod Script
-pub mod CapRead
-pub mod World
-pub mod CardSemantics
-pub mod JvmStep
+pub mod LowerClassFile
+pub mod Bytecode
+pub mod LowerScript
+pub mod LowerWorld
+pub mod LowerCardSemantics
+pub mod JvmSemantics

@@ -2,7 +2,7 @@
 use Rattle.std.specs.Prelude.{ℕ, List, Option, Some, None, Bool, true, false, ℤ, pos}
 use Rattle.std.specs.Int.{Width, w16, w32, int_bit_and, int_bit_or, int_bit_xor}
 use Rattle.std.specs.Int.RustNames.{int_div, int_rem, int_lt, int_le}
-use Rattle.cjc_jvm_step.specs.Range.Words.{low_word, low_byte}
+use Rattle.cjc_card_semantics.specs.Range.Words.{low_word, low_byte}
 use Rattle.cjc_card_semantics.specs.Bytecode.Numbers.{is_zero, same_number, sum, difference, product, negated}
 use Rattle.cjc_card_semantics.specs.Bytecode.Numbers.{shifted_left, shifted_right, shifted_unsigned, compared}
 use Rattle.cjc_card_semantics.specs.Bytecode.Calculations.{Calculation, Test, none, always, constant, int_constant}

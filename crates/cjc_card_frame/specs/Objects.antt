@@ -1,9 +1,9 @@
 -- Arrays and objects as the heap keeps them, and what is replaced in them.
 use Rattle.std.specs.Prelude.{ℕ, suc, ℤ, List, [], ◌∷◌, map, Option, Some, None, option_map, slice_get, slice_set}
 use Rattle.std.specs.Prelude.{if◌then◌else◌}
-use Rattle.cjc_card_semantics.specs.LowerScript.declared.value.Value.{Value}
-use Rattle.cjc_card_semantics.specs.LowerScript.Sorts.{Element}
-use Rattle.cjc_card_semantics.specs.LowerScript.Sorts
+use Rattle.cjc_card_semantics.specs.Script.declared.value.Value.{Value}
+use Rattle.cjc_card_semantics.specs.Script.Sorts.{Element}
+use Rattle.cjc_card_semantics.specs.Script.Sorts
 use Rattle.cjc_card_semantics.specs.Bytecode.Effects.{Slot, HeapObject, slots_with, with_some}
 use Rattle.cjc_card_semantics.specs.Bytecode.Effects
 use Rattle.cjc_card_semantics.specs.Machine.Classes.{Class, Field, same_field}

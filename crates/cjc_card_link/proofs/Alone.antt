@@ -2,10 +2,10 @@
 use Rattle.std.proofs.Common.{◌≡◌, ℕ, zero, suc, ◌+◌, List, [], ◌∷◌, length, refl, sym, ap, ◌∙◌, arith, Option, Some}
 use Rattle.std.proofs.Common.{None}
 use Rattle.std.specs.Prelude.{option_map, option_and_then, slice_get, is_some, if◌then◌else◌}
-use Rattle.cjc_check_index.specs.CapRead.declared.tree.ClassRef.TheVariants.{Outside}
-use Rattle.cjc_check_index.specs.CapRead.declared.tree.StaticRef.TheVariants as statics
-use Rattle.cjc_card_frame.specs.ExportFile.declared.tree.ExportClass.{ExportClass}
-use Rattle.cjc_card_frame.specs.ExportFile.declared.tree.ExportTree.{ExportTree}
+use Rattle.cjc_card_semantics.specs.CapRead.declared.tree.ClassRef.TheVariants.{Outside}
+use Rattle.cjc_card_semantics.specs.CapRead.declared.tree.StaticRef.TheVariants as statics
+use Rattle.cjc_card_semantics.specs.ExportFile.declared.tree.ExportClass.{ExportClass}
+use Rattle.cjc_card_semantics.specs.ExportFile.declared.tree.ExportTree.{ExportTree}
 use Rattle.cjc_card_semantics.specs.Machine.Loaded.{OfFile}
 use Rattle.cjc_card_semantics.specs.Machine.Classes.{External, class_of, imported_class, with_token}
 use Rattle.cjc_card_semantics.specs.Machine.Operations.{static_cell, cell_through}

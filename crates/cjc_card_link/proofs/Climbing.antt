@@ -6,9 +6,9 @@ use Rattle.std.proofs.lemmas.List.{append-nil, append_assoc, drop_more, map-appe
 use Rattle.std.proofs.lemmas.Grind.{flat_map-append}
 use Rattle.std.proofs.lemmas.Simd.{map-map}
 use Rattle.cjc_card_semantics.specs.Machine.Loaded.{Loaded}
-use Rattle.cjc_check_index.specs.CapRead.declared.tree.ClassEntry.{ClassEntry}
-use Rattle.cjc_check_index.specs.CapRead.declared.tree.InterfaceEntry.{InterfaceEntry}
-use Rattle.cjc_card_frame.specs.ExportFile.declared.tree.ExportClass.{ExportClass}
+use Rattle.cjc_card_semantics.specs.CapRead.declared.tree.ClassEntry.{ClassEntry}
+use Rattle.cjc_card_semantics.specs.CapRead.declared.tree.InterfaceEntry.{InterfaceEntry}
+use Rattle.cjc_card_semantics.specs.ExportFile.declared.tree.ExportClass.{ExportClass}
 use Rattle.cjc_card_semantics.specs.Machine.Classes.{Class, External, IsClass, IsInterface, all_supers}
 use Rattle.cjc_card_semantics.specs.Machine.Classes.{class_of as class_by_ref, closure, external, external_named, is_in}
 use Rattle.cjc_card_semantics.specs.Machine.Classes.{object_above, object_class, or_else, same_class, some_of, supers}

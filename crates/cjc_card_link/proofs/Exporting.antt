@@ -1,7 +1,7 @@
 -- What a package of the group exports under a class token.
 use Rattle.std.proofs.Common.{◌≡◌, ℕ, List, ap, ◌∙◌, Bool, Option, Some, None}
 use Rattle.std.specs.Prelude.{option_and_then, option_map, slice_get}
-use Rattle.cjc_check_index.specs.CapRead.declared.tree.ExportedClass.{ExportedClass}
+use Rattle.cjc_card_semantics.specs.CapRead.declared.tree.ExportedClass.{ExportedClass}
 use Rattle.cjc_card_semantics.specs.Machine.Loaded.{Part}
 use Rattle.cjc_card_semantics.specs.Machine.Operations.{Callee, Fixed}
 use Rattle.cjc_card_semantics.specs.Machine.Statics.{StaticCell}

@@ -1,9 +1,9 @@
 -- An instruction that is fetched stands at the front of some bytes.
 use Rattle.std.proofs.Common.{◌≡◌, ℕ, ◌+◌, List, refl, sym, ap, ◌∙◌, Bool, true, false, Option, Some, None}
 use Rattle.std.specs.Prelude.{option_map, option_and_then, nat_le, if◌then◌else◌, IfSome, slice_get}
-use Rattle.cjc_check_index.specs.CapRead.Decode.{Instruction, decode, size}
-use Rattle.cjc_check_index.specs.CapRead.declared.decoder.insn.Insn.{Insn}
-use Rattle.cjc_check_index.specs.CapRead.Decoder.Decoded.{instruction_of}
+use Rattle.cjc_card_semantics.specs.CapRead.Decode.{Instruction, decode, size}
+use Rattle.cjc_card_semantics.specs.CapRead.declared.decoder.insn.Insn.{Insn}
+use Rattle.cjc_card_semantics.specs.CapRead.Decoder.Decoded.{instruction_of}
 use Rattle.cjc_card_frame.specs.Codes.{bytes_at, insn_at, within}
 use Rattle.cjc_card_semantics.specs.Machine.Loaded.{Part, Loaded}
 use Rattle.cjc_card_semantics.specs.Machine.Methods.{Code, fetch, fetched_as, methods_begin}

@@ -3,7 +3,7 @@ use Rattle.std.proofs.Common.{◌≡◌, ℕ, zero, suc, ◌+◌, ◌-◌, ◌<�
 use Rattle.std.proofs.Common.{append_assoc, length, subst}
 use Rattle.std.specs.List.{AllByRecursion}
 use Rattle.std.proofs.lemmas.List.{append-nil, map-append}
-use Rattle.cjc_check_index.specs.LowerCheckRules.Complete.{class_info_size}
+use Rattle.cjc_check_index.specs.CheckRules.Complete.{class_info_size}
 use Rattle.cjc_card_semantics.specs.Machine.Loaded.{Import, Part}
 use Rattle.cjc_card_link.specs.declared.part.GroupPart.{GroupPart}
 use Rattle.cjc_card_link.specs.declared.part.Import.{Import as ImportData}

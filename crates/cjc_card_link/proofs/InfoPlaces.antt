@@ -4,13 +4,13 @@ use Rattle.std.proofs.Common.{◌∙◌, Bool, true, false, arith, Option, Some,
 use Rattle.std.specs.Prelude.{◌==◌, map, sum_by, option_map, slice_get, if◌then◌else◌, IfSome}
 use Rattle.std.proofs.lemmas.Bool.Decides.{nat_tests}
 use Rattle.std.proofs.lemmas.List.Sums.{sum_by-cons, sum_by-append}
-use Rattle.cjc_check_index.specs.CapRead.declared.tree.ClassInfo.{ClassInfo}
-use Rattle.cjc_check_index.specs.CapRead.declared.tree.ClassEntry.{ClassEntry}
-use Rattle.cjc_check_index.specs.CapRead.declared.tree.InterfaceEntry.{InterfaceEntry}
-use Rattle.cjc_check_index.specs.CapRead.declared.tree.ImplementedInterface.{ImplementedInterface}
-use Rattle.cjc_check_index.specs.LowerCheckRules.Spots.{placed, starts}
-use Rattle.cjc_check_index.specs.LowerCheckRules.Complete.{interface_size, class_size, map_size, class_info_size}
-use Rattle.cjc_check_index.specs.LowerCheckRules.Classes.{first_class}
+use Rattle.cjc_card_semantics.specs.CapRead.declared.tree.ClassInfo.{ClassInfo}
+use Rattle.cjc_card_semantics.specs.CapRead.declared.tree.ClassEntry.{ClassEntry}
+use Rattle.cjc_card_semantics.specs.CapRead.declared.tree.InterfaceEntry.{InterfaceEntry}
+use Rattle.cjc_card_semantics.specs.CapRead.declared.tree.ImplementedInterface.{ImplementedInterface}
+use Rattle.cjc_check_index.specs.CheckRules.Spots.{placed, starts}
+use Rattle.cjc_check_index.specs.CheckRules.Complete.{interface_size, class_size, map_size, class_info_size}
+use Rattle.cjc_check_index.specs.CheckRules.Classes.{first_class}
 use Rattle.cjc_card_semantics.specs.Machine.Classes.{Info, IsInterface, IsClass, info_size, map_sizes, number_from}
 use Rattle.cjc_card_semantics.specs.Machine.Classes.{offset_from}
 use Rattle.cjc_card_link.specs.Indices.{first_place}

@@ -2,12 +2,12 @@
 use Rattle.std.proofs.Common.{◌≡◌, ℕ, ◌<◌, ◌≤◌, ◌^◌, ◌+◌, List, [], ◌∷◌, length, get_or, drop, refl, sym, ap, ◌∙◌, Bool}
 use Rattle.std.proofs.Common.{true, false, Option, Some, None, subst, arith}
 use Rattle.std.specs.Prelude.{option_map, option_and_then, if◌then◌else◌, ◌==◌}
-use Rattle.cjc_check_index.specs.CapRead.declared.tree.ClassDescriptor.{ClassDescriptor}
-use Rattle.cjc_check_index.specs.CapRead.declared.tree.ClassRef.{ClassRef}
-use Rattle.cjc_check_index.specs.CapRead.declared.tree.ClassRef.TheVariants.{Inside, Outside}
-use Rattle.cjc_check_index.specs.CapRead.declared.tree.MethodDescriptor.{MethodDescriptor}
-use Rattle.cjc_check_index.specs.CapRead.MethodHeader.{MethodHeader, method_header, extended_header, short_header}
-use Rattle.cjc_check_index.specs.CapRead.MethodHeader.{is_extended}
+use Rattle.cjc_card_semantics.specs.CapRead.declared.tree.ClassDescriptor.{ClassDescriptor}
+use Rattle.cjc_card_semantics.specs.CapRead.declared.tree.ClassRef.{ClassRef}
+use Rattle.cjc_card_semantics.specs.CapRead.declared.tree.ClassRef.TheVariants.{Inside, Outside}
+use Rattle.cjc_card_semantics.specs.CapRead.declared.tree.MethodDescriptor.{MethodDescriptor}
+use Rattle.cjc_card_semantics.specs.CapRead.MethodHeader.{MethodHeader, method_header, extended_header, short_header}
+use Rattle.cjc_card_semantics.specs.CapRead.MethodHeader.{is_extended}
 use Rattle.cjc_card_semantics.specs.Machine.Loaded.{Part}
 use Rattle.cjc_card_frame.specs.Codes.{bytes_at}
 use Rattle.cjc_card_semantics.specs.Machine.Classes.{or_else}

@@ -1,7 +1,7 @@
 -- Static methods and constructors of imported classes.
 use Rattle.std.proofs.Common.{ℕ, Bool, Option}
 use Rattle.std.specs.Prelude.{option_map, option_and_then}
-use Rattle.cjc_card_frame.specs.ExportFile.declared.tree.ExportClass.{ExportClass}
+use Rattle.cjc_card_semantics.specs.ExportFile.declared.tree.ExportClass.{ExportClass}
 use Rattle.cjc_card_semantics.specs.Machine.Operations.{Callee, outer, unbound_of}
 
 -- the one of a token, in a class that is there

@@ -2,7 +2,7 @@
 use Rattle.std.proofs.Common.{◌≡◌, ℕ, suc, ◌+◌, ◌-◌, ◌<◌, List, [], ◌∷◌, ◌++◌, sym, ap, ◌∙◌, arith, map, append_assoc}
 use Rattle.std.proofs.lemmas.List.{map-append}
 use Rattle.cjc_card_semantics.specs.Bytecode.Effects.{Slot}
-use Rattle.cjc_check_index.specs.CapRead.declared.tree.ClassEntry.{ClassEntry}
+use Rattle.cjc_card_semantics.specs.CapRead.declared.tree.ClassEntry.{ClassEntry}
 use Rattle.cjc_card_semantics.specs.Machine.Classes.{Class, Field, slot_for, slots_from}
 use Rattle.cjc_card_frame.specs.declared.heap.slots.Slot.{Slot as SlotData}
 use Rattle.cjc_card_frame.specs.Objects.{slot_by}

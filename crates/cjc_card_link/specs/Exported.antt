@@ -1,7 +1,7 @@
 -- The classes of export files, and what is kept so that each is found at once.
 use Rattle.std.specs.Prelude.{◌≡◌, ℕ, List, map, Option, option_and_then, slice_get}
-use Rattle.cjc_card_frame.specs.ExportFile.declared.tree.ExportClass.{ExportClass}
-use Rattle.cjc_card_frame.specs.ExportFile.declared.tree.ExportTree.{ExportTree}
+use Rattle.cjc_card_semantics.specs.ExportFile.declared.tree.ExportClass.{ExportClass}
+use Rattle.cjc_card_semantics.specs.ExportFile.declared.tree.ExportTree.{ExportTree}
 use Rattle.cjc_check_index.specs.Lookup.Indexed.{places_of}
 use Rattle.cjc_card_semantics.specs.Machine.Classes.{with_token, external_from}
 use Rattle.cjc_card_link.specs.declared.indices.Classes.{Classes}

@@ -1,6 +1,6 @@
 -- Groups of one package or of several, with export files; those of one package stand in the order of Import.
 use Rattle.std.specs.Prelude.{ℕ, zero, suc, ◌+◌, List, [], ◌∷◌, length, map}
-use Rattle.cjc_card_frame.specs.ExportFile.declared.tree.ExportTree.{ExportTree}
+use Rattle.cjc_card_semantics.specs.ExportFile.declared.tree.ExportTree.{ExportTree}
 use Rattle.cjc_card_semantics.specs.Machine.Loaded.{Import, OfFile, OfGroup, Part, Loaded}
 use Rattle.cjc_card_frame.specs.Kinds.{cell_name_of}
 use Rattle.cjc_card_link.specs.declared.part.GroupPart.{GroupPart}

@@ -1,8 +1,8 @@
 -- Infos of interfaces and classes, and what is kept so that each is found at once.
 use Rattle.std.specs.Prelude.{◌≡◌, ◌<◌, ◌^◌, ℕ, List, ◌++◌, map}
-use Rattle.cjc_check_index.specs.CapRead.declared.tree.ClassInfo.{ClassInfo}
-use Rattle.cjc_check_index.specs.LowerCheckRules.Complete.{class_info_size}
-use Rattle.cjc_check_index.specs.LowerCheckRules.Spots.{starts}
+use Rattle.cjc_card_semantics.specs.CapRead.declared.tree.ClassInfo.{ClassInfo}
+use Rattle.cjc_check_index.specs.CheckRules.Complete.{class_info_size}
+use Rattle.cjc_check_index.specs.CheckRules.Spots.{starts}
 use Rattle.cjc_card_semantics.specs.Machine.Classes.{Info, IsInterface, IsClass, info_size, number_from}
 use Rattle.cjc_card_link.specs.declared.indices.Numbers.{Numbers}
 use Rattle.cjc_card_link.specs.declared.infos.Info.{Info as InfoData}

@@ -10,10 +10,11 @@ pub mod Walks
 pub mod MetClasses
 pub mod Climbs
 -- Definitions of lower crates, for those above.
-pub mod ClassFile
-pub mod Bytecode
-pub mod CapRead
-pub mod CheckRules
-pub mod CheckIndex
-pub mod CardSemantics
-pub mod CardFrame
+pub mod Bytes
+pub mod ExportFile
+pub mod Script
+pub mod LowerCapRead
+pub mod World
+pub mod LowerCheckRules
+pub mod LowerCheckIndex
+pub mod LowerCardFrame

@@ -1,7 +1,7 @@
 -- What is kept of one package of a group, so that what its components say is found at once.
 use Rattle.std.specs.Prelude.{◌≡◌, ℕ, List, [], Option, option_and_then, option_map}
 use Rattle.std.specs.Str.{bytes_eq}
-use Rattle.cjc_check_index.specs.CapRead.declared.tree.ClassInfo.{ClassInfo}
+use Rattle.cjc_card_semantics.specs.CapRead.declared.tree.ClassInfo.{ClassInfo}
 use Rattle.cjc_card_semantics.specs.Machine.Classes.{Class, Own, number_named, offset_of}
 use Rattle.cjc_card_semantics.specs.Machine.Loaded.{Part as Linked}
 use Rattle.cjc_card_semantics.specs.Machine.Methods.{methods_begin}

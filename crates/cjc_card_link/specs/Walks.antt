@@ -1,6 +1,6 @@
 -- What is found upwards through the tables of classes.
 use Rattle.std.specs.Prelude.{ℕ, Option, Some, None}
-use Rattle.cjc_check_index.specs.CapRead.declared.tree.ClassEntry.{ClassEntry}
+use Rattle.cjc_card_semantics.specs.CapRead.declared.tree.ClassEntry.{ClassEntry}
 use Rattle.cjc_card_semantics.specs.Machine.Loaded.{Loaded}
 use Rattle.cjc_card_semantics.specs.Machine.Classes.{Info, IsClass, external}
 use Rattle.cjc_card_semantics.specs.Machine.Dispatch.{Selection, NotFound, At, exported_line, in_files}

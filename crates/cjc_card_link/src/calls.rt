@@ -3,7 +3,7 @@
 
 ghost use Rattle.std.specs.Prelude.{◌≡◌, option_map, option_and_then, slice_get};
 ghost use Rattle.std.specs.Option.{option_copied};
-ghost use Rattle.cjc_card_frame.specs.ExportFile.Members.{is_unbound};
+ghost use Rattle.cjc_card_semantics.specs.ExportFile.Members.{is_unbound};
 ghost use Rattle.cjc_card_frame.specs.Meanings.{mode_of};
 ghost use Rattle.cjc_card_semantics.specs.Machine.Classes.{class_of as class_by_ref};
 ghost use Rattle.cjc_card_semantics.specs.Machine.Operations.{Fixed, OnObject, OnSuper, calling, entry, outer};

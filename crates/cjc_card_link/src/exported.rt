@@ -29,7 +29,7 @@ pub(crate) struct Exported<'a> {
 
 impl<'a> Model for Exported<'a> {
     ghost use Rattle.std.specs.Prelude.{List};
-    ghost use Rattle.cjc_card_frame.specs.ExportFile.declared.tree.ExportTree.{ExportTree as Tree};
+    ghost use Rattle.cjc_card_semantics.specs.ExportFile.declared.tree.ExportTree.{ExportTree as Tree};
     ghost use Rattle.cjc_card_link.specs.Exported.{AreExported};
 
     ghost Value = { List Tree };

@@ -2,9 +2,9 @@
 
 ghost use Rattle.std.specs.Prelude.{◌≡◌, ◌<◌, ◌+◌, ◌^◌, ◌++◌, ◌==◌, ℕ, length, option_map, option_and_then, slice_get};
 ghost use Rattle.std.specs.Prelude.{IfOk, IfSome, OnOk};
-ghost use Rattle.cjc_check_index.specs.LowerCheckRules.Complete.{class_info_size};
+ghost use Rattle.cjc_check_index.specs.CheckRules.Complete.{class_info_size};
 ghost use Rattle.cjc_card_semantics.specs.Machine.Classes.{number_from, offset_from, info_size};
-ghost use Rattle.cjc_check_index.specs.LowerCheckRules.Spots.{starts};
+ghost use Rattle.cjc_check_index.specs.CheckRules.Spots.{starts};
 ghost use Rattle.cjc_card_link.specs.Indices.{number_under, first_place};
 ghost use Rattle.cjc_card_link.specs.Infos.{AreInfos, info_by, infos_in};
 
@@ -33,7 +33,7 @@ pub(crate) struct Infos<'a> {
 }
 
 impl<'a> Model for Infos<'a> {
-    ghost use Rattle.cjc_check_index.specs.CapRead.declared.tree.ClassInfo.{ClassInfo as Entries};
+    ghost use Rattle.cjc_card_semantics.specs.CapRead.declared.tree.ClassInfo.{ClassInfo as Entries};
     ghost use Rattle.cjc_card_link.specs.Infos.{AreInfos};
 
     ghost Value = { Entries };

@@ -5,12 +5,12 @@ ghost use Rattle.std.specs.Prelude.{◌≡◌, ◌≤◌, ◌<◌, ◌+◌, ◌*
 ghost use Rattle.std.specs.Prelude.{slice_get, IfOk, IfSome};
 ghost use Rattle.std.specs.Option.{option_copied};
 ghost use Rattle.std.specs.Str.{bytes_eq};
-ghost use Rattle.cjc_check_index.specs.CapRead.Decoder.Decoded.{IsAtFront, header_of, instruction_of};
+ghost use Rattle.cjc_card_semantics.specs.CapRead.Decoder.Decoded.{IsAtFront, header_of, instruction_of};
 ghost use Rattle.cjc_card_semantics.specs.Machine.Classes.{info_at, infos, number_named, number_of, offset_of};
 ghost use Rattle.cjc_card_semantics.specs.Machine.Methods.{methods_begin, start_in};
 ghost use Rattle.cjc_card_frame.specs.Codes.{bytes_at, insn_at};
 ghost use Rattle.cjc_card_frame.specs.Kinds.{start_of, IsDecoded};
-ghost use Rattle.cjc_check_index.specs.LowerCheckRules.Complete.{class_info_size};
+ghost use Rattle.cjc_check_index.specs.CheckRules.Complete.{class_info_size};
 ghost use Rattle.cjc_card_link.specs.Described.{started};
 ghost use Rattle.cjc_card_link.specs.Group.{import_of, part_with};
 ghost use Rattle.cjc_card_link.specs.Indices.{first_place, place_under};

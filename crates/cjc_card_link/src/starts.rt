@@ -2,7 +2,7 @@
 //! Specification 2.2.2, section 6.9).
 
 ghost use Rattle.std.specs.Prelude.{◌≡◌, ◌≤◌, ◌+◌, ℕ, List, option_map, IfSome};
-ghost use Rattle.cjc_check_index.specs.CapRead.Decoder.Decoded.{IsAtFront, instruction_of};
+ghost use Rattle.cjc_card_semantics.specs.CapRead.Decoder.Decoded.{IsAtFront, instruction_of};
 ghost use Rattle.cjc_card_semantics.specs.Machine.Methods.{fetch, fetched_as, start_of as start_by_offset};
 ghost use Rattle.cjc_card_frame.specs.Kinds.{code_of, pool_of, start_of, IsDecoded};
 ghost use Rattle.cjc_card_link.specs.Tables.{AreKept, loaded_of};

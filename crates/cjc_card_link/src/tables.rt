@@ -8,7 +8,7 @@ ghost use Rattle.cjc_card_semantics.specs.Machine.Classes.{class_of as class_by_
 ghost use Rattle.cjc_card_semantics.specs.Machine.Classes.{import_of as import_by, imported_class, info_count};
 ghost use Rattle.cjc_card_semantics.specs.Machine.Classes.{superclass};
 ghost use Rattle.cjc_card_semantics.specs.Machine.Loaded.{OfFile, OfGroup};
-ghost use Rattle.cjc_check_index.specs.LowerCheckRules.Complete.{class_info_size};
+ghost use Rattle.cjc_check_index.specs.CheckRules.Complete.{class_info_size};
 ghost use Rattle.cjc_card_frame.specs.Objects.{class_of};
 ghost use Rattle.cjc_card_link.specs.Group.{alone, files_from, group_of, group_part, import_of};
 ghost use Rattle.cjc_card_link.specs.Infos.{info_by};

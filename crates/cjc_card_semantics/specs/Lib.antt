@@ -1,6 +1,8 @@
 pub mod Bytecode
 pub mod Machine
 -- Definitions of lower crates, for those above.
-pub mod LowerExportFile
-pub mod LowerScript
-pub mod LowerCapRead
+pub mod Bytes
+pub mod Range
+pub mod ExportFile
+pub mod Script
+pub mod CapRead

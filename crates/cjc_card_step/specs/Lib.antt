@@ -1,2 +1,4 @@
 pub mod Effects
 pub mod Rows
+-- Definitions of lower crates, for those above.
+pub mod ClassFile

@@ -1,13 +1,13 @@
 -- What an instruction does, by its operation, and when it has been followed to the offset where it leads.
 use Rattle.std.specs.Prelude.{ℕ, List, [], ◌∷◌, Option, Some, None, option_and_then, Bool, true, false, ℤ, pos, negsuc}
-use Rattle.cjc_card_frame.specs.Script.declared.value.Value.{Value}
-use Rattle.cjc_card_frame.specs.CapRead.Decode.{Instruction}
+use Rattle.cjc_card_semantics.specs.Script.declared.value.Value.{Value}
+use Rattle.cjc_card_semantics.specs.CapRead.Decode.{Instruction}
 use Rattle.cjc_card_semantics.specs.Bytecode.Calculations.{one_int, one_number}
 use Rattle.cjc_card_semantics.specs.Bytecode.Effects.{Stick, effect}
 use Rattle.cjc_card_semantics.specs.Bytecode.Meanings.{Use, meaning}
 use Rattle.cjc_card_semantics.specs.Machine.Loaded.{Loaded}
 use Rattle.cjc_card_semantics.specs.Machine.ByToken.{classes}
-use Rattle.cjc_card_frame.specs.Script.Sorts.{Shape}
+use Rattle.cjc_card_semantics.specs.Script.Sorts.{Shape}
 use Rattle.cjc_card_semantics.specs.Machine.Classes.{Class}
 use Rattle.cjc_card_semantics.specs.Machine.Operations.{Resolved, class_at, entry, operation, or_undone, type_by, using}
 use Rattle.cjc_card_frame.specs.declared.opcodes.kinds.Meaning.{Meaning as MeaningData}

@@ -4,8 +4,8 @@ use Rattle.std.proofs.Common.{refl, sym, ap, subst, ◌∙◌, arith, inl, inr, 
 use Rattle.std.specs.Prelude.{if◌then◌else◌, ◌&&◌, ◌⊎◌, nat_lt, nat_le, is_some, not}
 use Rattle.std.proofs.lemmas.Bool.Decides.{nat_tests}
 use Rattle.std.proofs.lemmas.Bool.{or_parts}
-use Rattle.cjc_check_rules.specs.Bytes.Breaks.{Break, IsFirst, IsFirstOf}
-use Rattle.cjc_check_rules.specs.Bytes.Order.{AreUpTo, NotAfter, numbers}
+use Rattle.cjc_capread.specs.Bytes.Breaks.{Break, IsFirst, IsFirstOf}
+use Rattle.cjc_capread.specs.Bytes.Order.{AreUpTo, NotAfter, numbers}
 use Rattle.cjc_capread.proofs.BytesFirsts.{first_left, first_of_one, first_right}
 use Rattle.cjc_check_rules.specs.Consistent.{break_at, breaks_of, is_true, sentence}
 use Rattle.cjc_check_rules.specs.declared.spot.ComponentPlace.{ComponentPlace}

@@ -1,6 +1,6 @@
 -- The first places of all sentences on components of which only Applet and Export may be absent.
 use Rattle.std.specs.Prelude.{◌≡◌, List, [], ◌∷◌, true}
-use Rattle.cjc_check_tables.specs.ExportFile.declared.tree.ExportTree.{ExportTree}
+use Rattle.cjc_check_rules.specs.ExportFile.declared.tree.ExportTree.{ExportTree}
 use Rattle.cjc_check.specs.declared.firsts.Counted.{Counted}
 use Rattle.cjc_check.specs.declared.firsts.Firsts.{Firsts}
 use Rattle.cjc_check.specs.Coded.{AreCoded}

@@ -5,6 +5,5 @@ pub mod Order
 pub mod Codes
 pub mod Jumps
 -- Definitions of lower crates, for those above.
-pub mod ExportFile
-pub mod CapRead
-pub mod CheckRules
+pub mod LowerExportFile
+pub mod LowerCheckRules

@@ -1,6 +1,6 @@
 -- The first places of the sentences that look classes, methods and types up.
 use Rattle.std.specs.Prelude.{◌≡◌, List}
-use Rattle.cjc_check_tables.specs.ExportFile.declared.tree.ExportTree.{ExportTree}
+use Rattle.cjc_check_rules.specs.ExportFile.declared.tree.ExportTree.{ExportTree}
 use Rattle.cjc_check.specs.declared.linked.Linked.{Linked}
 use Rattle.cjc_check_rules.specs.Spots.{first}
 use Rattle.cjc_check_rules.specs.Complete.{Complete}

@@ -1,6 +1,6 @@
 -- A broken sentence as a break, in the order in which sentences are tested: those that it needs are true.
 use Rattle.std.specs.Prelude.{ℕ, Bool, true, false, Option, Some, None, if◌then◌else◌}
-use Rattle.cjc_check_rules.specs.Bytes.Breaks.{Break}
+use Rattle.cjc_capread.specs.Bytes.Breaks.{Break}
 use Rattle.cjc_check_rules.specs.declared.spot.ComponentPlace.{ComponentPlace}
 use Rattle.cjc_check_rules.specs.Consistent.{break_at}
 

@@ -3,8 +3,8 @@
 ghost use Rattle.std.specs.Prelude.{◌≡◌, IfOk, map};
 ghost use Rattle.cjc_check.specs.Coded.{AreCoded};
 ghost use Rattle.cjc_check.specs.Codes.Bodies.{AreBodies, IsCut, code_of, cut_of};
-ghost use Rattle.cjc_check_tables.specs.LowerCheckIndex.Lookup.Indexed.{IsIndexed};
-ghost use Rattle.cjc_check_tables.specs.LowerCheckIndex.Lookup.Parts.{complete_of};
+ghost use Rattle.cjc_check_tables.specs.CheckIndex.Lookup.Indexed.{IsIndexed};
+ghost use Rattle.cjc_check_tables.specs.CheckIndex.Lookup.Parts.{complete_of};
 ghost use Rattle.cjc_check_rules.specs.Codes.{all_codes, codes, whole_spots};
 ghost use Rattle.cjc_check_rules.specs.Spots.{first};
 ghost use Rattle.cjc_check_rules.specs.Complete.{AreSmall};

@@ -2,9 +2,9 @@
 //! consistent.
 
 ghost use Rattle.std.specs.Prelude.{◌≡◌, IfErr, IfOk, List, OnOk, flat_map, option_map};
-ghost use Rattle.cjc_check_rules.specs.Bytes.Breaks.{IsFirstOf, IsFirstRefusal};
-ghost use Rattle.cjc_check_rules.specs.Bytes.Told.{break_of};
-ghost use Rattle.cjc_check_tables.specs.LowerCheckIndex.Lookup.Parts.{complete_of};
+ghost use Rattle.cjc_capread.specs.Bytes.Breaks.{IsFirstOf, IsFirstRefusal};
+ghost use Rattle.cjc_capread.specs.Bytes.Told.{break_of};
+ghost use Rattle.cjc_check_tables.specs.CheckIndex.Lookup.Parts.{complete_of};
 ghost use Rattle.cjc_check_rules.specs.Complete.{AreSmall, IsSmall, complete};
 ghost use Rattle.cjc_check_rules.specs.Consistent.{Consistent, Unbroken, breaks, breaks_of, of_complete};
 ghost use Rattle.cjc_check_rules.specs.Consistent.{where_complete};

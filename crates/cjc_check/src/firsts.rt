@@ -2,12 +2,12 @@
 //! of these in the order of refusals. What looks classes up is made here, once.
 
 ghost use Rattle.std.specs.Prelude.{◌≡◌, ◌+◌, ◌<◌, ◌^◌, IfOk, List, flat_map, option_map};
-ghost use Rattle.cjc_check_rules.specs.Bytes.Breaks.{IsFirstOf};
-ghost use Rattle.cjc_check_rules.specs.Bytes.Told.{break_of};
+ghost use Rattle.cjc_capread.specs.Bytes.Breaks.{IsFirstOf};
+ghost use Rattle.cjc_capread.specs.Bytes.Told.{break_of};
 ghost use Rattle.cjc_check.specs.Firsts.{AreCounted, AreFirsts, from_whole};
-ghost use Rattle.cjc_check_tables.specs.ExportFile.declared.tree.ExportTree.{ExportTree as Export};
-ghost use Rattle.cjc_check_tables.specs.LowerCheckIndex.Lookup.Indexed.{IsIndexed};
-ghost use Rattle.cjc_check_tables.specs.LowerCheckIndex.Lookup.Parts.{complete_of};
+ghost use Rattle.cjc_check_rules.specs.ExportFile.declared.tree.ExportTree.{ExportTree as Export};
+ghost use Rattle.cjc_check_tables.specs.CheckIndex.Lookup.Indexed.{IsIndexed};
+ghost use Rattle.cjc_check_tables.specs.CheckIndex.Lookup.Parts.{complete_of};
 ghost use Rattle.cjc_check_rules.specs.Classes.{first_class, first_interface};
 ghost use Rattle.cjc_check_rules.specs.Complete.{AreSmall, Complete, class_info_size, class_size, interface_size};
 ghost use Rattle.cjc_check_rules.specs.Consistent.{breaks_of, of_complete};

@@ -4,16 +4,16 @@
 ghost use Rattle.std.specs.Prelude.{◌≡◌, ℕ, ◌==◌, ◌&&◌, IfOk, length};
 ghost use Rattle.std.specs.List.{list_any};
 ghost use Rattle.std.specs.List.Sorted.{IsNonDecreasing};
-ghost use Rattle.cjc_check_rules.specs.Bytes.AccessFlags.{is_static};
+ghost use Rattle.cjc_capread.specs.Bytes.AccessFlags.{is_static};
 ghost use Rattle.cjc_check_rules.specs.Complete.{AreSmall};
 ghost use Rattle.cjc_check_rules.specs.Described.{descriptor_spots};
 ghost use Rattle.cjc_check_rules.specs.Members.{class_methods};
 ghost use Rattle.cjc_check_rules.specs.Spots.{first};
-ghost use Rattle.cjc_check_tables.specs.LowerCheckIndex.Lookup.Indexed.{IsIndexed};
-ghost use Rattle.cjc_check_tables.specs.LowerCheckIndex.Lookup.MethodStarts.{HasMethods};
+ghost use Rattle.cjc_check_tables.specs.CheckIndex.Lookup.Indexed.{IsIndexed};
+ghost use Rattle.cjc_check_tables.specs.CheckIndex.Lookup.MethodStarts.{HasMethods};
 ghost use Rattle.cjc_check_tables.specs.Links.Leaving.{IsLeaving};
 ghost use Rattle.cjc_check.specs.Linked.{AreFirst};
-ghost use Rattle.cjc_check_tables.specs.LowerCheckIndex.Lookup.Parts.{complete_of};
+ghost use Rattle.cjc_check_tables.specs.CheckIndex.Lookup.Parts.{complete_of};
 
 use cjc_capread::bytes::NoMemory;
 use cjc_check_rules::ComponentPlace;

@@ -2,8 +2,8 @@
 //! are true, and its first place. It knows no sentence.
 
 ghost use Rattle.std.specs.Prelude.{◌≡◌, ◌&&◌, ◌++◌, Bool, List, option_map};
-ghost use Rattle.cjc_check_rules.specs.Bytes.Breaks.{Break as BreakOf, IsFirstOf};
-ghost use Rattle.cjc_check_rules.specs.Bytes.Told.{break_of, spot_of};
+ghost use Rattle.cjc_capread.specs.Bytes.Breaks.{Break as BreakOf, IsFirstOf};
+ghost use Rattle.cjc_capread.specs.Bytes.Told.{break_of, spot_of};
 ghost use Rattle.cjc_check.specs.Order.{as_break};
 ghost use Rattle.cjc_check_rules.specs.Consistent.{breaks_of, is_true, place_of, sentence, file_name};
 ghost use Rattle.cjc_check_rules.specs.Spots.{first};

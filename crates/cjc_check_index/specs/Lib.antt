@@ -1,5 +1,5 @@
 pub mod Lookup
 pub mod Imported
 -- Definitions of lower crates, for those above.
-pub mod CapRead
-pub mod LowerCheckRules
+pub mod Bytes
+pub mod CheckRules

@@ -1,19 +1,19 @@
 -- How the methods of a package that is converted come to their code.
 use Rattle.std.specs.Prelude.{◌≡◌, ℕ, ◌<◌, List, [], length, slice_get, Option, Some, true}
 use Rattle.cjc_bytes.specs.declared.fault.MemberId.{MemberId}
-use Rattle.cjc_tokens.specs.ClassFile.Code.{CodeTree}
-use Rattle.cjc_tokens.specs.ClassFile.declared.tree.ClassTree.{ClassTree}
-use Rattle.cjc_tokens.specs.ClassFile.declared.tree.MethodTree.{MethodTree}
-use Rattle.cjc_ncode.specs.Bytecode.declared.method_code.MethodCode.{MethodCode}
+use Rattle.cjc_world.specs.ClassFile.Code.{CodeTree}
+use Rattle.cjc_world.specs.ClassFile.declared.tree.ClassTree.{ClassTree}
+use Rattle.cjc_world.specs.ClassFile.declared.tree.MethodTree.{MethodTree}
+use Rattle.cjc_components.specs.Bytecode.declared.method_code.MethodCode.{MethodCode}
 use Rattle.cjc_world.specs.Files.{Files}
-use Rattle.cjc_narrow_proof.specs.Types.declared.state.State.{State}
-use Rattle.cjc_narrow_proof.specs.Types.Flow.{body_of}
-use Rattle.cjc_narrow_proof.specs.Types.Tables.{IsLeastTable, IsMethodOf}
+use Rattle.cjc_pool.specs.Types.declared.state.State.{State}
+use Rattle.cjc_pool.specs.Types.Flow.{body_of}
+use Rattle.cjc_pool.specs.Types.Tables.{IsLeastTable, IsMethodOf}
 use Rattle.cjc_ncode.specs.Lowering.Naming.{Naming}
-use Rattle.cjc_components.specs.Narrow.Rows.Selected.{selected_code}
-use Rattle.cjc_components.specs.Narrow.Written.Rows.{has_rows, rows_by}
-use Rattle.cjc_components.specs.Layout.Legal.{IsLeast}
-use Rattle.cjc_components.specs.Emit.Emitted.{CanBeWritten, placed_at}
+use Rattle.cjc_pool.specs.Narrow.Rows.Selected.{selected_code}
+use Rattle.cjc_pool.specs.Narrow.Written.Rows.{has_rows, rows_by}
+use Rattle.cjc_pool.specs.Layout.Legal.{IsLeast}
+use Rattle.cjc_pool.specs.Emit.Emitted.{CanBeWritten, placed_at}
 use Rattle.cjc_components.specs.Package.{LaidMethod}
 
 -- An abstract method has no code. That of any other is what is selected for a method whose code has a byte, of the

@@ -2,7 +2,7 @@
 //! For whoever shows that a converted package keeps their premises. Nothing here runs.
 ghost use Rattle.std.specs.Prelude.{ℕ, List};
 ghost use Rattle.cjc_bytes.specs.declared.settings.Settings.{Settings as Given};
-ghost use Rattle.cjc_ncode.specs.Bytecode.declared.method_code.MethodCode.{MethodCode};
+ghost use Rattle.cjc_components.specs.Bytecode.declared.method_code.MethodCode.{MethodCode};
 ghost use Rattle.cjc_vtable.specs.Kept.{BreaksNone};
 ghost use Rattle.cjc_vtable.specs.Meant.{HaveOneAccess};
 ghost use Rattle.cjc_components.specs.Package.{Package, world};

@@ -2,11 +2,11 @@
 //! field that it is written to, so that the files that are written spell them. For whoever writes them. Nothing here
 //! runs.
 ghost use Rattle.std.specs.Prelude.{IfSome};
-ghost use Rattle.cjc_components.specs.CapWrite.Fits.{AppletFits, ClassInfoFits, DescriptorFits, DirectoryFits};
-ghost use Rattle.cjc_components.specs.CapWrite.Fits.{ExportFits};
-ghost use Rattle.cjc_components.specs.CapWrite.Fits.{HeaderFits, ImportFits, LocationsFit, MethodFits, PoolFits};
-ghost use Rattle.cjc_components.specs.CapWrite.Fits.{StaticFieldFits};
-ghost use Rattle.cjc_components.specs.CapWrite.Writable.{IsWritable};
+ghost use Rattle.cjc_pool.specs.CapWrite.Fits.{AppletFits, ClassInfoFits, DescriptorFits, DirectoryFits};
+ghost use Rattle.cjc_pool.specs.CapWrite.Fits.{ExportFits};
+ghost use Rattle.cjc_pool.specs.CapWrite.Fits.{HeaderFits, ImportFits, LocationsFit, MethodFits, PoolFits};
+ghost use Rattle.cjc_pool.specs.CapWrite.Fits.{StaticFieldFits};
+ghost use Rattle.cjc_pool.specs.CapWrite.Writable.{IsWritable};
 ghost use Rattle.cjc_components.specs.Class.{class_info};
 ghost use Rattle.cjc_components.specs.Components.{applet, header, import, method, reference_location};
 ghost use Rattle.cjc_components.specs.Components.{components_of, directory_with, sizes};

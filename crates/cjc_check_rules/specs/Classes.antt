@@ -10,7 +10,7 @@ use Rattle.cjc_capread.specs.declared.tree.ClassEntry.{ClassEntry}
 use Rattle.cjc_capread.specs.declared.tree.ClassInfo.{ClassInfo}
 use Rattle.cjc_export.specs.declared.tree.ExportClass.{ExportClass}
 use Rattle.cjc_export.specs.declared.tree.ExportTree.{ExportTree}
-use Rattle.cjc_export.specs.LowerBytes.AccessFlags.{is_interface}
+use Rattle.cjc_export.specs.Bytes.AccessFlags.{is_interface}
 use Rattle.cjc_check_rules.specs.Spots.{Placed, placed, begins}
 use Rattle.cjc_check_rules.specs.Complete.{interface_size, class_size}
 

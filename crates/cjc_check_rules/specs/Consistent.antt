@@ -6,9 +6,9 @@
 use Rattle.std.specs.Prelude.{◌≡◌, ℕ, List, [], ◌∷◌, map, flat_map, Bool, true, ◌==◌, ◌&&◌, if◌then◌else◌, Option, Some}
 use Rattle.std.specs.Prelude.{None, codes}
 use Rattle.std.specs.List.{list_all}
-use Rattle.cjc_export.specs.LowerBytes.declared.order.FileKey.TheVariants as keys
-use Rattle.cjc_export.specs.LowerBytes.Refused.{in_file}
-use Rattle.cjc_export.specs.LowerBytes.Breaks.{Break, broken_at, RulePlace as Place}
+use Rattle.cjc_export.specs.Bytes.declared.order.FileKey.TheVariants as keys
+use Rattle.cjc_export.specs.Bytes.Refused.{in_file}
+use Rattle.cjc_export.specs.Bytes.Breaks.{Break, broken_at, RulePlace as Place}
 use Rattle.cjc_capread.specs.declared.tree.CapTree.{CapTree}
 use Rattle.cjc_export.specs.declared.tree.ExportTree.{ExportTree}
 use Rattle.cjc_check_rules.specs.Spots.{ComponentPlace}

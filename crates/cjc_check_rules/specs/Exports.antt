@@ -5,7 +5,7 @@ use Rattle.cjc_capread.specs.declared.tree.ClassDescriptor.{ClassDescriptor}
 use Rattle.cjc_capread.specs.declared.tree.ExportedClass.{ExportedClass}
 use Rattle.cjc_capread.specs.declared.tree.Export.{Export}
 use Rattle.cjc_capread.specs.ClassRefs.{is_inside}
-use Rattle.cjc_export.specs.LowerBytes.AccessFlags.{is_static}
+use Rattle.cjc_export.specs.Bytes.AccessFlags.{is_static}
 use Rattle.cjc_check_rules.specs.Spots.{ComponentPlace, in_info, unless, numbered}
 use Rattle.cjc_check_rules.specs.Complete.{Complete, exported_size}
 use Rattle.cjc_check_rules.specs.Classes.{is_start}

@@ -17,6 +17,6 @@ pub mod Described
 pub mod Consistent
 pub mod Example
 -- Definitions of lower crates, for those above.
-pub mod Bytes
-pub mod LowerExportFile
-pub mod LowerCapRead
+pub mod LowerBytes
+pub mod ExportFile
+pub mod CapRead

@@ -7,7 +7,7 @@ use Rattle.cjc_capread.specs.declared.tree.ArrayInit.{ArrayInit}
 use Rattle.cjc_capread.specs.declared.tree.Import.{Import}
 use Rattle.cjc_capread.specs.declared.tree.StaticField.{StaticField}
 use Rattle.cjc_capread.specs.declared.tree.CapTree.{CapTree}
-use Rattle.cjc_export.specs.LowerBytes.AccessFlags.{has}
+use Rattle.cjc_export.specs.Bytes.AccessFlags.{has}
 use Rattle.cjc_export.specs.Members.{same_bool}
 use Rattle.cjc_check_rules.specs.Spots.{ComponentPlace, in_info, unless, beside}
 use Rattle.cjc_check_rules.specs.Complete.{size_items}

@@ -16,7 +16,7 @@ use Rattle.cjc_export.specs.declared.tree.ExportMethod.{ExportMethod}
 use Rattle.cjc_export.specs.declared.tree.ExportClass.{ExportClass}
 use Rattle.cjc_export.specs.declared.tree.ExportTree.{ExportTree}
 use Rattle.cjc_export.specs.Supers.{classes_of, upwards, has_virtual as lists_or_inherits, inherits_virtual}
-use Rattle.cjc_export.specs.LowerBytes.AccessFlags.{has, is_static, is_interface}
+use Rattle.cjc_export.specs.Bytes.AccessFlags.{has, is_static, is_interface}
 use Rattle.cjc_check_rules.specs.Spots.{Placed, item_at}
 use Rattle.cjc_check_rules.specs.Complete.{Complete}
 use Rattle.cjc_check_rules.specs.Classes.{classes_at, imported, is_own_class}

@@ -2,5 +2,4 @@ pub mod Links
 pub mod Exported
 pub mod Members
 -- Definitions of lower crates, for those above.
-pub mod ExportFile
-pub mod LowerCheckIndex
+pub mod CheckIndex

@@ -1,7 +1,7 @@
 -- Applets by what gives the offsets of methods (Java Card Virtual Machine Specification 2.2.2, section 6.5).
 use Rattle.std.specs.Prelude.{ℕ, List, Option, Some, None, codes}
 use Rattle.cjc_bytes.specs.declared.settings.AppletLine.{AppletLine}
-use Rattle.cjc_components.specs.CapRead.declared.tree.AppletEntry.{AppletEntry}
+use Rattle.cjc_components.specs.LowerCapRead.declared.tree.AppletEntry.{AppletEntry}
 use Rattle.cjc_world.specs.declared.found.Found.{Found}
 use Rattle.cjc_world.specs.Classes.{Class}
 use Rattle.cjc_world.specs.Lookup.{find_method}

@@ -1,14 +1,14 @@
 -- Entries of the pool by what gives class_refs, tokens and offsets (Java Card Virtual Machine Specification 2.2.2,
 -- section 6.7).
 use Rattle.std.specs.Prelude.{ℕ, List, Option, Some, None, option_and_then, unwrap_or}
-use Rattle.cjc_components.specs.CapRead.declared.tree.ClassRef.{ClassRef}
-use Rattle.cjc_components.specs.CapRead.declared.tree.ClassRef.TheVariants as places
-use Rattle.cjc_components.specs.CapRead.declared.tree.StaticRef.{StaticRef}
-use Rattle.cjc_components.specs.CapRead.declared.tree.StaticRef.TheVariants as refs
-use Rattle.cjc_components.specs.CapRead.declared.tree.PoolEntry.{PoolEntry}
-use Rattle.cjc_components.specs.CapRead.declared.tree.PoolEntry.TheVariants as entries
-use Rattle.cjc_components.specs.NCode.declared.narrow.PoolKey.{PoolKey}
-use Rattle.cjc_components.specs.NCode.declared.narrow.PoolKey.TheVariants as keys
+use Rattle.cjc_components.specs.LowerCapRead.declared.tree.ClassRef.{ClassRef}
+use Rattle.cjc_components.specs.LowerCapRead.declared.tree.ClassRef.TheVariants as places
+use Rattle.cjc_components.specs.LowerCapRead.declared.tree.StaticRef.{StaticRef}
+use Rattle.cjc_components.specs.LowerCapRead.declared.tree.StaticRef.TheVariants as refs
+use Rattle.cjc_components.specs.LowerCapRead.declared.tree.PoolEntry.{PoolEntry}
+use Rattle.cjc_components.specs.LowerCapRead.declared.tree.PoolEntry.TheVariants as entries
+use Rattle.cjc_components.specs.LowerNCode.declared.narrow.PoolKey.{PoolKey}
+use Rattle.cjc_components.specs.LowerNCode.declared.narrow.PoolKey.TheVariants as keys
 use Rattle.cjc_world.specs.declared.found.Found.{Found}
 use Rattle.cjc_world.specs.Classes.{Class}
 use Rattle.cjc_world.specs.Lookup.{find_field, find_method}

@@ -6,7 +6,7 @@ use Rattle.cjc_tokens.specs.Lines.{Line, line_at}
 use Rattle.cjc_tokens.specs.Members.{Signature, chosen, has, is_hidden, is_shown, signature_of, signatures}
 use Rattle.cjc_tokens.specs.Methods.{with_high_bit}
 use Rattle.cjc_tokens.specs.Slots.{hidden_slots, shown_token, token}
-use Rattle.cjc_components.specs.VTable.Calls.{any_method, finds_hidden}
+use Rattle.cjc_components.specs.LowerVTable.Calls.{any_method, finds_hidden}
 
 -- a name and a descriptor as a signature
 abbrev pub called : (name desc : List ℕ) → Signature

@@ -3,8 +3,8 @@ use Rattle.std.proofs.Common.{◌≡◌, subst, List, [], inl, inr}
 use Rattle.cjc_bytes.specs.declared.fault.Fault.{Fault}
 use Rattle.cjc_bytes.specs.Breaks.{Break, Among, IsFirstRefusal}
 use Rattle.cjc_bytes.proofs.BrokenRules.{none_among}
-use Rattle.cjc_subset.specs.Bytecode.declared.method_code.MethodCode.{MethodCode}
-use Rattle.cjc_subset.specs.World.Files.{Files}
+use Rattle.cjc_subset.specs.LowerBytecode.declared.method_code.MethodCode.{MethodCode}
+use Rattle.cjc_subset.specs.LowerWorld.Files.{Files}
 use Rattle.cjc_clinit.specs.Rules.{AreBreaks, BreaksImage, IsFirstRefused}
 
 module _ (files : Files) (codes : List MethodCode) (bs : List Break) (all : AreBreaks files codes bs) where

@@ -2,9 +2,9 @@
 use Rattle.std.proofs.Common.{◌≡◌, refl, Bool, true, false, not, ◌&&◌}
 use Rattle.std.specs.Prelude.{is_some}
 use Rattle.cjc_bytes.specs.AccessFlags.{is_static}
-use Rattle.cjc_subset.specs.ClassFile.declared.tree.FieldTree.{FieldTree}
+use Rattle.cjc_subset.specs.LowerClassFile.declared.tree.FieldTree.{FieldTree}
 use Rattle.cjc_clinit.specs.Fields.{has_unfit_value, is_cell, number_kind, value_fits}
-use Rattle.cjc_subset.specs.ExportFile.Members.{may_be_constant}
+use Rattle.cjc_subset.specs.LowerExportFile.Members.{may_be_constant}
 
 pub cell_fits : (f : FieldTree) → has_unfit_value f ≡ false
     → (is_cell f && not (value_fits (number_kind f.desc) f.constant)) ≡ false

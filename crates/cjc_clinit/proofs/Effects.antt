@@ -7,13 +7,13 @@ use Rattle.cjc_bytes.specs.declared.fault.MemberId.{MemberId}
 use Rattle.cjc_bytes.proofs.BrokenRules.{among_left, among_right, none_among}
 use Rattle.cjc_bytes.proofs.Gets.{drop_next, drop_past}
 use Rattle.cjc_bytes.proofs.Options.{when_none, option_had}
-use Rattle.cjc_subset.specs.ClassFile.declared.tree.ClassTree.{ClassTree}
-use Rattle.cjc_subset.specs.ClassFile.declared.tree.FieldTree.{FieldTree}
-use Rattle.cjc_subset.specs.Bytecode.declared.method_code.MethodCode.{MethodCode}
-use Rattle.cjc_subset.specs.World.declared.image.ArrayCell.{ArrayCell}
-use Rattle.cjc_subset.specs.World.declared.image.StaticImage.{StaticImage}
-use Rattle.cjc_subset.specs.World.declared.image.ValueCell.{ValueCell}
-use Rattle.cjc_subset.specs.World.Files.{Files}
+use Rattle.cjc_subset.specs.LowerClassFile.declared.tree.ClassTree.{ClassTree}
+use Rattle.cjc_subset.specs.LowerClassFile.declared.tree.FieldTree.{FieldTree}
+use Rattle.cjc_subset.specs.LowerBytecode.declared.method_code.MethodCode.{MethodCode}
+use Rattle.cjc_subset.specs.LowerWorld.declared.image.ArrayCell.{ArrayCell}
+use Rattle.cjc_subset.specs.LowerWorld.declared.image.StaticImage.{StaticImage}
+use Rattle.cjc_subset.specs.LowerWorld.declared.image.ValueCell.{ValueCell}
+use Rattle.cjc_subset.specs.LowerWorld.Files.{Files}
 use Rattle.cjc_clinit.specs.declared.stage.Held.{Held}
 use Rattle.cjc_clinit.specs.Initialiser.{nothing_in}
 use Rattle.cjc_clinit.specs.Image.{AreInitialised, IsImage, arrays_of, empty, field_id, fields_in, held_in, image_of}

@@ -10,16 +10,16 @@ use Rattle.cjc_bytes.proofs.Options.{option_mapped, then_some}
 use Rattle.cjc_bytes.proofs.Bools.{and_true}
 use Rattle.cjc_bytes.proofs.Numbers.{number_same}
 use Rattle.cjc_bytes.specs.declared.descriptor.Kind.TheVariants as kinds
-use Rattle.cjc_subset.specs.ClassFile.declared.tree.ClassTree.{ClassTree}
-use Rattle.cjc_subset.specs.Bytecode.declared.insn.JOp.{JOp}
-use Rattle.cjc_subset.specs.Bytecode.declared.insn.JOp.TheVariants as jop
-use Rattle.cjc_subset.specs.World.declared.image.ArrayCell.{ArrayCell}
-use Rattle.cjc_subset.specs.World.Files.{Files}
+use Rattle.cjc_subset.specs.LowerClassFile.declared.tree.ClassTree.{ClassTree}
+use Rattle.cjc_subset.specs.LowerBytecode.declared.insn.JOp.{JOp}
+use Rattle.cjc_subset.specs.LowerBytecode.declared.insn.JOp.TheVariants as jop
+use Rattle.cjc_subset.specs.LowerWorld.declared.image.ArrayCell.{ArrayCell}
+use Rattle.cjc_subset.specs.LowerWorld.Files.{Files}
 use Rattle.cjc_clinit.specs.declared.stage.Held.{Held}
 use Rattle.cjc_clinit.specs.declared.stage.Stage.{Stage}
 use Rattle.cjc_clinit.specs.declared.stage.Stage.TheVariants as stages
 use Rattle.cjc_clinit.specs.Fields.{Contents, ANumber, ANull, AnArray, fits, held_by}
-use Rattle.cjc_subset.specs.Bytecode.Jvm.{dup, return}
+use Rattle.cjc_subset.specs.LowerBytecode.Jvm.{dup, return}
 use Rattle.cjc_clinit.specs.Initialiser.{element_kind, store, most_items, place_for, Stores, Makes, Put, Initialises}
 use Rattle.cjc_clinit.specs.Initialiser.{IsBeginning}
 use Rattle.cjc_clinit.specs.Initialiser.Stores.{none, one}

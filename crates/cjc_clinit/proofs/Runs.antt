@@ -1,10 +1,10 @@
 -- Instructions read one after the other, without their offsets.
 use Rattle.std.proofs.Common.{◌≡◌, ◌∙◌, refl, ap, ℕ, List, [], ◌∷◌, ◌++◌}
 use Rattle.std.specs.Prelude.{Option, Some, None, Result, Ok, Err, option_and_then}
-use Rattle.cjc_subset.specs.ClassFile.declared.tree.ClassTree.{ClassTree}
-use Rattle.cjc_subset.specs.Bytecode.declared.insn.JInsn.{JInsn}
-use Rattle.cjc_subset.specs.Bytecode.declared.insn.JOp.{JOp}
-use Rattle.cjc_subset.specs.World.Files.{Files}
+use Rattle.cjc_subset.specs.LowerClassFile.declared.tree.ClassTree.{ClassTree}
+use Rattle.cjc_subset.specs.LowerBytecode.declared.insn.JInsn.{JInsn}
+use Rattle.cjc_subset.specs.LowerBytecode.declared.insn.JOp.{JOp}
+use Rattle.cjc_subset.specs.LowerWorld.Files.{Files}
 use Rattle.cjc_clinit.specs.Initialiser.{ops_of}
 use Rattle.cjc_clinit.specs.Working.Reading.{State, read, state_after, or_wrong}
 use Rattle.cjc_bytes.proofs.Options.{then_some}

@@ -1,10 +1,10 @@
 -- What the grammar settles: code is an initialiser or wrong at one offset, and its effect is one.
 use Rattle.std.proofs.Common.{◌≡◌, ◌∙◌, refl, sym, ap, ℕ, List, [], ◌++◌, inl, inr}
 use Rattle.std.specs.Prelude.{◌⊎◌, Some, Result, Ok, Err}
-use Rattle.cjc_subset.specs.ClassFile.declared.tree.ClassTree.{ClassTree}
-use Rattle.cjc_subset.specs.Bytecode.declared.insn.JInsn.{JInsn}
-use Rattle.cjc_subset.specs.Bytecode.declared.insn.JOp.{JOp}
-use Rattle.cjc_subset.specs.World.Files.{Files}
+use Rattle.cjc_subset.specs.LowerClassFile.declared.tree.ClassTree.{ClassTree}
+use Rattle.cjc_subset.specs.LowerBytecode.declared.insn.JInsn.{JInsn}
+use Rattle.cjc_subset.specs.LowerBytecode.declared.insn.JOp.{JOp}
+use Rattle.cjc_subset.specs.LowerWorld.Files.{Files}
 use Rattle.cjc_clinit.specs.declared.stage.Held.{Held}
 use Rattle.cjc_clinit.specs.declared.stage.Stage.TheVariants as stages
 use Rattle.cjc_clinit.specs.Initialiser.{Initialises, IsBeginning, IsInitialiser, IsWrongAt, Put}

@@ -6,11 +6,11 @@ use Rattle.cjc_bytes.specs.Breaks.{Break, RulePlace, Among, foremost, IsFirstOf,
 use Rattle.cjc_bytes.specs.Order.{FilePlace, file_of}
 use Rattle.cjc_bytes.proofs.Firsts.{among_one, among_either}
 use Rattle.cjc_bytes.proofs.BrokenRules.{among_left, among_right, no_among}
-use Rattle.cjc_subset.specs.ClassFile.declared.tree.ClassTree.{ClassTree}
-use Rattle.cjc_subset.specs.ClassFile.declared.tree.MethodTree.{MethodTree}
-use Rattle.cjc_subset.specs.Bytecode.declared.method_code.MethodCode.{MethodCode}
+use Rattle.cjc_subset.specs.LowerClassFile.declared.tree.ClassTree.{ClassTree}
+use Rattle.cjc_subset.specs.LowerClassFile.declared.tree.MethodTree.{MethodTree}
+use Rattle.cjc_subset.specs.LowerBytecode.declared.method_code.MethodCode.{MethodCode}
 use Rattle.cjc_subset.specs.Places.{at_class, at_method, of_class, of_method}
-use Rattle.cjc_subset.specs.World.Files.{Files}
+use Rattle.cjc_subset.specs.LowerWorld.Files.{Files}
 use Rattle.cjc_clinit.specs.Initialiser.{is_initialiser}
 use Rattle.cjc_clinit.specs.Image.{class_where, if_initialiser, initialised}
 use Rattle.cjc_clinit.specs.Rules.{AreBreaks, BreaksClass, BreaksCode, BreaksImage, is_wrong_class}

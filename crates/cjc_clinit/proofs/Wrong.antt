@@ -1,11 +1,11 @@
 -- Where reading ends is where code is wrong, and code that is read to its end is an initialiser.
 use Rattle.std.proofs.Common.{◌≡◌, ◌∙◌, refl, sym, ap, subst, ℕ, List, [], ◌∷◌, ◌++◌, Bool, true, false}
 use Rattle.std.specs.Prelude.{Option, Some, None, Result, Ok, Err, if◌then◌else◌}
-use Rattle.cjc_subset.specs.ClassFile.declared.tree.ClassTree.{ClassTree}
-use Rattle.cjc_subset.specs.Bytecode.declared.insn.JInsn.{JInsn}
-use Rattle.cjc_subset.specs.Bytecode.declared.insn.JOp.{JOp}
-use Rattle.cjc_subset.specs.World.declared.image.ArrayCell.{ArrayCell}
-use Rattle.cjc_subset.specs.World.Files.{Files}
+use Rattle.cjc_subset.specs.LowerClassFile.declared.tree.ClassTree.{ClassTree}
+use Rattle.cjc_subset.specs.LowerBytecode.declared.insn.JInsn.{JInsn}
+use Rattle.cjc_subset.specs.LowerBytecode.declared.insn.JOp.{JOp}
+use Rattle.cjc_subset.specs.LowerWorld.declared.image.ArrayCell.{ArrayCell}
+use Rattle.cjc_subset.specs.LowerWorld.Files.{Files}
 use Rattle.cjc_clinit.specs.declared.stage.Stage.TheVariants as stages
 use Rattle.cjc_clinit.specs.Initialiser.{IsBeginning, IsInitialiser, IsWrongAt, nothing_in, ops_of}
 use Rattle.cjc_clinit.specs.Image.{arrays_of}

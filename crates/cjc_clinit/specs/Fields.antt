@@ -6,8 +6,8 @@ use Rattle.std.specs.Str.{bytes_eq}
 use Rattle.cjc_bytes.specs.declared.descriptor.Kind.{Kind}
 use Rattle.cjc_bytes.specs.declared.descriptor.Kind.TheVariants as kinds
 use Rattle.cjc_bytes.specs.AccessFlags.{is_static}
-use Rattle.cjc_subset.specs.ClassFile.declared.tree.FieldTree.{FieldTree}
-use Rattle.cjc_subset.specs.ExportFile.Members.{may_be_constant}
+use Rattle.cjc_subset.specs.LowerClassFile.declared.tree.FieldTree.{FieldTree}
+use Rattle.cjc_subset.specs.LowerExportFile.Members.{may_be_constant}
 use Rattle.cjc_clinit.specs.declared.stage.Held.{Held}
 use Rattle.cjc_clinit.specs.declared.stage.Held.TheVariants as held
 

@@ -5,13 +5,13 @@ use Rattle.std.specs.Prelude.{◌≡◌, ℕ, ◌+◌, List, [], ◌∷◌, ◌+
 use Rattle.std.specs.Prelude.{Some, None, is_some, ℤ, pos}
 use Rattle.std.specs.Ordering.{int_eq}
 use Rattle.cjc_bytes.specs.declared.fault.MemberId.{MemberId}
-use Rattle.cjc_subset.specs.ClassFile.declared.tree.ClassTree.{ClassTree}
-use Rattle.cjc_subset.specs.ClassFile.declared.tree.FieldTree.{FieldTree}
-use Rattle.cjc_subset.specs.ClassFile.declared.tree.MethodTree.{MethodTree}
-use Rattle.cjc_subset.specs.Bytecode.declared.method_code.MethodCode.{MethodCode}
-use Rattle.cjc_subset.specs.World.declared.image.ArrayCell.{ArrayCell}
-use Rattle.cjc_subset.specs.World.declared.image.StaticImage.{StaticImage}
-use Rattle.cjc_subset.specs.World.Files.{Files}
+use Rattle.cjc_subset.specs.LowerClassFile.declared.tree.ClassTree.{ClassTree}
+use Rattle.cjc_subset.specs.LowerClassFile.declared.tree.FieldTree.{FieldTree}
+use Rattle.cjc_subset.specs.LowerClassFile.declared.tree.MethodTree.{MethodTree}
+use Rattle.cjc_subset.specs.LowerBytecode.declared.method_code.MethodCode.{MethodCode}
+use Rattle.cjc_subset.specs.LowerWorld.declared.image.ArrayCell.{ArrayCell}
+use Rattle.cjc_subset.specs.LowerWorld.declared.image.StaticImage.{StaticImage}
+use Rattle.cjc_subset.specs.LowerWorld.Files.{Files}
 use Rattle.cjc_clinit.specs.declared.stage.Held.{Held}
 use Rattle.cjc_clinit.specs.declared.stage.Held.TheVariants as held
 use Rattle.cjc_clinit.specs.declared.stage.Start.{Start}

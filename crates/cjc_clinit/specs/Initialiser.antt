@@ -9,17 +9,17 @@ use Rattle.std.specs.Str.{bytes_eq}
 use Rattle.cjc_bytes.specs.declared.fault.MemberId.{MemberId}
 use Rattle.cjc_bytes.specs.declared.descriptor.Kind.{Kind}
 use Rattle.cjc_bytes.specs.declared.descriptor.Kind.TheVariants as kinds
-use Rattle.cjc_subset.specs.ClassFile.declared.tree.ClassTree.{ClassTree}
-use Rattle.cjc_subset.specs.ClassFile.declared.tree.FieldTree.{FieldTree}
-use Rattle.cjc_subset.specs.ClassFile.declared.tree.MethodTree.{MethodTree}
-use Rattle.cjc_subset.specs.Bytecode.declared.insn.JInsn.{JInsn}
-use Rattle.cjc_subset.specs.Bytecode.declared.insn.JOp.{JOp}
-use Rattle.cjc_subset.specs.Bytecode.declared.insn.JOp.TheVariants as jop
-use Rattle.cjc_subset.specs.Bytecode.Jvm as jvm
-use Rattle.cjc_subset.specs.World.declared.found.Found.{Found}
-use Rattle.cjc_subset.specs.World.Files.{Files}
-use Rattle.cjc_subset.specs.World.Classes.{all_classes}
-use Rattle.cjc_subset.specs.World.Lookup.{find_field}
+use Rattle.cjc_subset.specs.LowerClassFile.declared.tree.ClassTree.{ClassTree}
+use Rattle.cjc_subset.specs.LowerClassFile.declared.tree.FieldTree.{FieldTree}
+use Rattle.cjc_subset.specs.LowerClassFile.declared.tree.MethodTree.{MethodTree}
+use Rattle.cjc_subset.specs.LowerBytecode.declared.insn.JInsn.{JInsn}
+use Rattle.cjc_subset.specs.LowerBytecode.declared.insn.JOp.{JOp}
+use Rattle.cjc_subset.specs.LowerBytecode.declared.insn.JOp.TheVariants as jop
+use Rattle.cjc_subset.specs.LowerBytecode.Jvm as jvm
+use Rattle.cjc_subset.specs.LowerWorld.declared.found.Found.{Found}
+use Rattle.cjc_subset.specs.LowerWorld.Files.{Files}
+use Rattle.cjc_subset.specs.LowerWorld.Classes.{all_classes}
+use Rattle.cjc_subset.specs.LowerWorld.Lookup.{find_field}
 use Rattle.cjc_clinit.specs.declared.stage.Held.{Held}
 use Rattle.cjc_clinit.specs.declared.stage.Held.TheVariants as held
 use Rattle.cjc_clinit.specs.Fields.{Contents, ANumber, ANull, AnArray, is_cell, fits, takes, held_by}

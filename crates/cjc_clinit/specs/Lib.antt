@@ -5,4 +5,8 @@ pub mod Rules
 pub mod Working
 pub mod Worked
 -- Definitions of lower crates, for those above.
-pub mod Bytes
+pub mod Range
+pub mod ClassFile
+pub mod Bytecode
+pub mod World
+pub mod Subset

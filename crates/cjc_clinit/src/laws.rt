@@ -2,13 +2,13 @@
 //! is refused. Nothing here runs.
 
 ghost use Rattle.std.specs.Prelude.{◌≡◌, ◌⊎◌, ◌∷◌, ◌++◌, [], ℕ, List, pos, negsuc, codes, true, false};
-ghost use Rattle.cjc_subset.specs.ClassFile.declared.tree.ClassTree.{ClassTree};
-ghost use Rattle.cjc_subset.specs.Bytecode.declared.insn.JInsn.{JInsn};
-ghost use Rattle.cjc_subset.specs.Bytecode.declared.insn.JOp.{JOp};
-ghost use Rattle.cjc_subset.specs.Bytecode.declared.insn.JOp.TheVariants as jop;
-ghost use Rattle.cjc_subset.specs.Bytecode.declared.method_code.MethodCode.{MethodCode};
-ghost use Rattle.cjc_subset.specs.World.declared.image.StaticImage.{StaticImage};
-ghost use Rattle.cjc_subset.specs.World.Files.{Files};
+ghost use Rattle.cjc_subset.specs.LowerClassFile.declared.tree.ClassTree.{ClassTree};
+ghost use Rattle.cjc_subset.specs.LowerBytecode.declared.insn.JInsn.{JInsn};
+ghost use Rattle.cjc_subset.specs.LowerBytecode.declared.insn.JOp.{JOp};
+ghost use Rattle.cjc_subset.specs.LowerBytecode.declared.insn.JOp.TheVariants as jop;
+ghost use Rattle.cjc_subset.specs.LowerBytecode.declared.method_code.MethodCode.{MethodCode};
+ghost use Rattle.cjc_subset.specs.LowerWorld.declared.image.StaticImage.{StaticImage};
+ghost use Rattle.cjc_subset.specs.LowerWorld.Files.{Files};
 ghost use Rattle.cjc_clinit.specs.declared.stage.Held.{Held as Content};
 ghost use Rattle.cjc_clinit.specs.Image.{IsImage, arrays_of};
 ghost use Rattle.cjc_clinit.specs.Initialiser.{Initialises, IsBeginning, IsInitialiser, IsWrongAt, Put};

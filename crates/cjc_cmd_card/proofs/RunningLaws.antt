@@ -1,4 +1,5 @@
 pub mod Gathers
+pub mod Package
 pub mod Order
 pub mod Ranks
 pub mod Made

@@ -12,16 +12,6 @@ pub mod shelf {
     pub use cjc_cmd_jvm::shelf::{Shelf, command};
 }
 
-/// What crates above take of list.
-pub mod list {
-    pub use cjc_cmd_check::list::{List, read_list};
-}
-
-/// What crates above take of script.
-pub mod script {
-    pub use cjc_card::script::{Report, Script};
-}
-
 /// What crates above take of script_text.
 pub mod script_text {
     pub use cjc_cmd_jvm::script_text::{print, read};
@@ -69,7 +59,7 @@ pub mod card {
 
 /// What crates above take of jvm_link.
 pub mod jvm_link {
-    pub use cjc_cmd_jvm::jvm_link::{GroupLinks, Package, indices_of};
+    pub use cjc_cmd_jvm::jvm_link::{GroupLinks, Package, indices_of, joint_image, joint_world};
 }
 
 /// What crates above take of cjc_pairing.

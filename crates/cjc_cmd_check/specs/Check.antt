@@ -5,11 +5,11 @@ use Rattle.cjc_bytes.specs.declared.fault.Refusal.{Refusal}
 use Rattle.cjc_capread.specs.declared.tree.CapTree.{CapTree}
 use Rattle.cjc_shelf.specs.Command.Plan.{Plan, has, ◌>>=◌}
 use Rattle.cjc_shelf.specs.declared.command.status.Todo.{Todo}
-use Rattle.cjc_check.specs.ExportFile.declared.tree.ExportTree.{ExportTree}
+use Rattle.cjc_check.specs.LowerExportFile.declared.tree.ExportTree.{ExportTree}
 use Rattle.cjc_cmd_check.specs.Folder.Breaks.{cap_in, export_trees, file_breaks, unless_broken}
 use Rattle.cjc_cmd_check.specs.Folder.Reads.{plan_of_folder}
 use Rattle.cjc_cmd_check.specs.declared.folder.folder.Folder.{Folder}
-use Rattle.cjc_check.specs.CheckRules.Consistent.{Consistent, breaks}
+use Rattle.cjc_check.specs.LowerCheckRules.Consistent.{Consistent, breaks}
 
 -- the list of this name, its export files, and the components of the folder
 abbrev pub plan_of_check : (name dir : List ℕ) → Plan Folder

@@ -1,19 +1,19 @@
 -- What was read decides one answer.
 use Rattle.std.proofs.Common.{◌≡◌, ℕ, List, [], ◌∷◌, ◌++◌, refl, sym, ap, subst, ◌∙◌, arith, inl, inr, Result, Ok, Err}
-use Rattle.cjc_tokens.specs.Bytes.Breaks.{Among, Break, after, broken_at, foremost}
-use Rattle.cjc_tokens.specs.Bytes.Order.{FilePlace, Rank}
-use Rattle.cjc_tokens.specs.Bytes.Reading.{read_file}
-use Rattle.cjc_tokens.specs.Bytes.declared.fault.Refusal.{Refusal}
-use Rattle.cjc_tokens.specs.Bytes.declared.order.FileKey.TheVariants as keys
+use Rattle.cjc_world.specs.Bytes.Breaks.{Among, Break, after, broken_at, foremost}
+use Rattle.cjc_world.specs.Bytes.Order.{FilePlace, Rank}
+use Rattle.cjc_world.specs.Bytes.Reading.{read_file}
+use Rattle.cjc_world.specs.Bytes.declared.fault.Refusal.{Refusal}
+use Rattle.cjc_world.specs.Bytes.declared.order.FileKey.TheVariants as keys
 use Rattle.cjc_world.proofs.BytesFirsts.{among_either}
 use Rattle.cjc_cmd_check.proofs.CheckingLaws.OneAnswer.{HaveOneRefusal, firsts_agree, unless_one}
 use Rattle.cjc_cmd_check.specs.Folder.Breaks.{break_in, file_spot}
 use Rattle.cjc_cmd_compat.specs.Compat.{Compares, compat_breaks, format_breaks, old_file, version_breaks}
 use Rattle.cjc_compat.proofs.OneRank.{breaks_once}
 use Rattle.cjc_compat.specs.Rules.{new_file}
-use Rattle.cjc_tokens.specs.ExportFile.ExportFile.{export_file}
-use Rattle.cjc_tokens.specs.ExportFile.declared.tree.ExportTree.{ExportTree}
-use Rattle.cjc_cmd_check.specs.Shelf.declared.command.status.Todo.{Todo}
+use Rattle.cjc_compat.specs.ExportFile.ExportFile.{export_file}
+use Rattle.cjc_compat.specs.ExportFile.declared.tree.ExportTree.{ExportTree}
+use Rattle.cjc_cmd_check.specs.LowerShelf.declared.command.status.Todo.{Todo}
 use Rattle.cjc_world.proofs.BytesBrokenRules.{none_among}
 
 in_file : (f : FilePlace) (r : Result ExportTree ℕ) (b : Break) → Among b (break_in 104 f r) → (k : ℕ) × (r ≡ Err k)

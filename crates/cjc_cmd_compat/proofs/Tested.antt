@@ -1,23 +1,23 @@
 -- What two versions break, by how each is read.
 use Rattle.std.proofs.Common.{◌≡◌, ℕ, List, [], ◌∷◌, ◌++◌, refl, sym, ap, subst, ◌∙◌, arith, inl, inr, Result, Ok, Err}
 use Rattle.std.specs.Prelude.{◌⊎◌, IfErr}
-use Rattle.cjc_tokens.specs.Bytes.Breaks.{Among, Break, IsFirst, IsFirstRefusal, after, broken_at, foremost}
-use Rattle.cjc_tokens.specs.Bytes.Format.{FileBreaks, FileSpells}
-use Rattle.cjc_tokens.specs.Bytes.Order.{AreUpTo, NotAfter, numbers}
-use Rattle.cjc_tokens.specs.Bytes.Reading.{read_file}
-use Rattle.cjc_tokens.specs.Bytes.Refused.{IsBreak, refusal}
-use Rattle.cjc_tokens.specs.Bytes.declared.fault.Fault.{Fault}
-use Rattle.cjc_tokens.specs.Bytes.declared.fault.Fault.TheVariants as faults
+use Rattle.cjc_world.specs.Bytes.Breaks.{Among, Break, IsFirst, IsFirstRefusal, after, broken_at, foremost}
+use Rattle.cjc_world.specs.Bytes.Format.{FileBreaks, FileSpells}
+use Rattle.cjc_world.specs.Bytes.Order.{AreUpTo, NotAfter, numbers}
+use Rattle.cjc_world.specs.Bytes.Reading.{read_file}
+use Rattle.cjc_world.specs.Bytes.Refused.{IsBreak, refusal}
+use Rattle.cjc_world.specs.Bytes.declared.fault.Fault.{Fault}
+use Rattle.cjc_world.specs.Bytes.declared.fault.Fault.TheVariants as faults
 use Rattle.cjc_world.proofs.BytesFirsts.{among_one, first_of_one, upto_refl}
 use Rattle.cjc_world.proofs.BytesLaws.{file_breaks, file_spelt}
 use Rattle.cjc_cmd_check.specs.Folder.Breaks.{break_in, file_spot, unless_broken}
 use Rattle.cjc_cmd_compat.specs.Compat.{AreCompatible, Compares, compat_breaks, format_breaks, old_file, version_breaks}
 use Rattle.cjc_compat.specs.References.{KeepsReferences}
 use Rattle.cjc_compat.specs.Rules.{breaks, new_file}
-use Rattle.cjc_tokens.specs.ExportFile.ExportFile.{export_file}
-use Rattle.cjc_tokens.specs.ExportFile.declared.tree.ExportTree.{ExportTree}
-use Rattle.cjc_cmd_check.specs.Shelf.Command.Gather.{Judged, status_of_fault}
-use Rattle.cjc_cmd_check.specs.Shelf.declared.command.status.Todo.{Todo}
+use Rattle.cjc_compat.specs.ExportFile.ExportFile.{export_file}
+use Rattle.cjc_compat.specs.ExportFile.declared.tree.ExportTree.{ExportTree}
+use Rattle.cjc_cmd_check.specs.LowerShelf.Command.Gather.{Judged, status_of_fault}
+use Rattle.cjc_cmd_check.specs.LowerShelf.declared.command.status.Todo.{Todo}
 use Rattle.cjc_world.proofs.BytesBrokenRules.{none_among}
 
 -- the breaks by what reading each version gives

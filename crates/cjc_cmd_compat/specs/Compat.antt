@@ -1,19 +1,19 @@
 -- What `compat OLD NEW` reads, and what it prints.
 use Rattle.std.specs.Prelude.{◌≡◌, ℕ, List, [], ◌∷◌, ◌++◌, Result, Ok, Err}
-use Rattle.cjc_tokens.specs.Bytes.Breaks.{Break, IsFirst}
-use Rattle.cjc_tokens.specs.Bytes.Format.{FileSpells}
-use Rattle.cjc_tokens.specs.Bytes.Order.{FilePlace}
-use Rattle.cjc_tokens.specs.Bytes.Reading.{read_file}
-use Rattle.cjc_tokens.specs.Bytes.declared.fault.Refusal.{Refusal}
-use Rattle.cjc_tokens.specs.Bytes.declared.order.FileKey.TheVariants as keys
+use Rattle.cjc_world.specs.Bytes.Breaks.{Break, IsFirst}
+use Rattle.cjc_world.specs.Bytes.Format.{FileSpells}
+use Rattle.cjc_world.specs.Bytes.Order.{FilePlace}
+use Rattle.cjc_world.specs.Bytes.Reading.{read_file}
+use Rattle.cjc_world.specs.Bytes.declared.fault.Refusal.{Refusal}
+use Rattle.cjc_world.specs.Bytes.declared.order.FileKey.TheVariants as keys
 use Rattle.cjc_cmd_check.specs.Check.{ok_line}
 use Rattle.cjc_cmd_check.specs.Folder.Breaks.{break_in, unless_broken}
 use Rattle.cjc_compat.specs.References.{KeepsReferences}
 use Rattle.cjc_compat.specs.Rules.{breaks, new_file}
-use Rattle.cjc_tokens.specs.ExportFile.ExportFile.{export_file}
-use Rattle.cjc_tokens.specs.ExportFile.declared.tree.ExportTree.{ExportTree}
-use Rattle.cjc_cmd_check.specs.Shelf.Command.Plan.{Plan, has, read, ◌>>=◌}
-use Rattle.cjc_cmd_check.specs.Shelf.declared.command.status.Todo.{Todo}
+use Rattle.cjc_compat.specs.ExportFile.ExportFile.{export_file}
+use Rattle.cjc_compat.specs.ExportFile.declared.tree.ExportTree.{ExportTree}
+use Rattle.cjc_cmd_check.specs.LowerShelf.Command.Plan.{Plan, has, read, ◌>>=◌}
+use Rattle.cjc_cmd_check.specs.LowerShelf.declared.command.status.Todo.{Todo}
 
 -- the bytes of the new version, behind those of the old one
 abbrev pub plan_of_new : (new bytes : List ℕ) → Plan (List ℕ × List ℕ)

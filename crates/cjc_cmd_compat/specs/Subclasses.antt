@@ -2,12 +2,12 @@
 -- stands in the place of the old one: the tokens of their virtual methods (Java Card Virtual Machine Specification
 -- 2.2.2, sections 4.3.7.6, 4.4 and 4.5).
 use Rattle.std.specs.Prelude.{◌≡◌, ℕ, ◌+◌, Bool, true, false, ◌++◌, length, set, slice_get, Option, Some}
-use Rattle.cjc_tokens.specs.Bytes.AccessFlags.{is_final, is_interface}
-use Rattle.cjc_tokens.specs.ClassFile.declared.tree.ClassTree.{ClassTree}
-use Rattle.cjc_tokens.specs.ExportFile.Supers.{is_virtual}
-use Rattle.cjc_tokens.specs.ExportFile.declared.tree.ExportClass.{ExportClass}
-use Rattle.cjc_tokens.specs.ExportFile.declared.tree.ExportMethod.{ExportMethod}
-use Rattle.cjc_tokens.specs.ExportFile.declared.tree.ExportTree.{ExportTree}
+use Rattle.cjc_world.specs.Bytes.AccessFlags.{is_final, is_interface}
+use Rattle.cjc_world.specs.ClassFile.declared.tree.ClassTree.{ClassTree}
+use Rattle.cjc_compat.specs.ExportFile.Supers.{is_virtual}
+use Rattle.cjc_compat.specs.ExportFile.declared.tree.ExportClass.{ExportClass}
+use Rattle.cjc_compat.specs.ExportFile.declared.tree.ExportMethod.{ExportMethod}
+use Rattle.cjc_compat.specs.ExportFile.declared.tree.ExportTree.{ExportTree}
 use Rattle.cjc_world.specs.Files.{Files}
 use Rattle.cjc_world.specs.Classes.{Class, Member, all_classes, declared, imported, method_of_export}
 use Rattle.cjc_world.specs.Supertypes.{Lists, supertypes}

@@ -2,9 +2,9 @@
 //! here writes.
 
 ghost use Rattle.std.specs.Prelude.{◌≡◌, ◌<◌, ◌^◌, ◌∷◌, [], length, IfErr, IfOk, OnOk};
-ghost use Rattle.cjc_tokens.specs.Bytes.Breaks.{IsFirstRefusal};
+ghost use Rattle.cjc_world.specs.Bytes.Breaks.{IsFirstRefusal};
 ghost use Rattle.cjc_cmd_compat.specs.Compat.{AreCompatible, Compares, compat_breaks, plan_of_compat, plan_of_new};
-ghost use Rattle.cjc_cmd_check.specs.Shelf.Command.Gather.{Gathers, Judged};
+ghost use Rattle.cjc_cmd_check.specs.LowerShelf.Command.Gather.{Gathers, Judged};
 
 use cjc_cmd_check::checking::print_ok;
 use cjc_cmd_check::shelf::Shelf;

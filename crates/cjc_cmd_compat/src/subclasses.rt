@@ -5,11 +5,11 @@ ghost use Rattle.std.specs.Prelude.{◌≡◌, ℕ, Bool, false, List, [], slice
 ghost use Rattle.cjc_compat.specs.Rules as versions;
 ghost use Rattle.cjc_cmd_compat.specs.Subclasses.{AddsUnknown, ExtendsNoFinal, HasOneToken, KeepsTokens};
 ghost use Rattle.cjc_cmd_compat.specs.Subclasses.{ListsNoInitialiser, with_export};
-ghost use Rattle.cjc_tokens.specs.Bytes.AccessFlags.{is_interface};
-ghost use Rattle.cjc_tokens.specs.ClassFile.declared.tree.ClassTree.{ClassTree};
+ghost use Rattle.cjc_world.specs.Bytes.AccessFlags.{is_interface};
+ghost use Rattle.cjc_world.specs.ClassFile.declared.tree.ClassTree.{ClassTree};
 ghost use Rattle.cjc_world.specs.Classes.{all_classes, class_named, declared};
-ghost use Rattle.cjc_tokens.specs.ExportFile.Writable.{IsWritable};
-ghost use Rattle.cjc_tokens.specs.ExportFile.declared.tree.ExportTree.{ExportTree};
+ghost use Rattle.cjc_compat.specs.ExportFile.Writable.{IsWritable};
+ghost use Rattle.cjc_compat.specs.ExportFile.declared.tree.ExportTree.{ExportTree};
 ghost use Rattle.cjc_world.specs.Files.{Files};
 ghost use Rattle.cjc_world.specs.Rules as world;
 

@@ -1,7 +1,7 @@
 -- The files of a conversion below a folder, and the lines that are printed of them.
 use Rattle.std.specs.Prelude.{◌==◌, ℕ, List, [], ◌∷◌, ◌++◌, length, map, codes, decimal, if◌then◌else◌, Option, Some}
 use Rattle.std.specs.Prelude.{None}
-use Rattle.cjc_theorem.specs.CapWrite.declared.files.CapFiles.{CapFiles}
+use Rattle.cjc_convert.specs.CapWrite.declared.files.CapFiles.{CapFiles}
 use Rattle.cjc_shelf.specs.declared.command.status.File.{File}
 use Rattle.cjc_shelf.specs.declared.command.status.Todo.{Todo}
 

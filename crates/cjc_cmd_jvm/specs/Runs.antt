@@ -1,8 +1,8 @@
 -- What `jvm LIST SCRIPT N` prints: the report of a run by name of the class files that a list names.
 use Rattle.std.specs.Prelude.{◌≡◌, ℕ, List, [], ◌∷◌, Result, Ok, Err}
-use Rattle.cjc_judge.specs.Bytes.declared.fault.Refusal.{Refusal}
-use Rattle.cjc_jvm.specs.JvmSemantics.ByName.{run}
-use Rattle.cjc_judge.specs.Clinit.Image.{IsImage}
+use Rattle.cjc_shelf.specs.Bytes.declared.fault.Refusal.{Refusal}
+use Rattle.cjc_jvm_link.specs.JvmSemantics.ByName.{run}
+use Rattle.cjc_judge.specs.LowerClinit.Image.{IsImage}
 use Rattle.cjc_shelf.specs.declared.command.status.Todo.{Todo}
 use Rattle.cjc_judge.specs.Rules.{IsFirstRefused}
 use Rattle.cjc_shelf.specs.Command.Plan.{Plan, has, ◌>>=◌}
@@ -10,9 +10,9 @@ use Rattle.cjc_cmd_jvm.specs.Running.Reads.{plan_of_run}
 use Rattle.cjc_cmd_jvm.specs.Running.Ready.{Breaks, IsReady}
 use Rattle.cjc_cmd_jvm.specs.declared.running.input.Input.{Input}
 use Rattle.cjc_cmd_jvm.specs.declared.running.ready.Ready.{Ready}
-use Rattle.cjc_jvm.specs.Script.declared.report.Report.{Report}
+use Rattle.cjc_script_text.specs.Script.declared.report.Report.{Report}
 use Rattle.cjc_script_text.specs.Printed.{report_text}
-use Rattle.cjc_jvm_link.specs.World.declared.image.StaticImage.{StaticImage}
+use Rattle.cjc_judge.specs.World.declared.image.StaticImage.{StaticImage}
 
 -- the list of this name, its files, and the script
 abbrev pub plan_of_jvm : (name script : List ℕ) → Plan Input

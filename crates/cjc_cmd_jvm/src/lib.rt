@@ -14,7 +14,7 @@ pub mod script_text {
 
 /// What crates above take of cjc_jvm_link.
 pub mod jvm_link {
-    pub use cjc_jvm_link::{GroupLinks, Package, indices_of};
+    pub use cjc_jvm_link::{GroupLinks, Package, indices_of, joint_image, joint_world};
 }
 
 pub mod report;

@@ -2,9 +2,9 @@
 //! that they are meant to have, and its export file an export file; and the first numbers and texts of package
 //! 7. Laws alone: no code calls them.
 ghost use Rattle.std.specs.Prelude.{◌≡◌, ◌++◌, ◌∷◌, [], ℕ, codes};
-ghost use Rattle.cjc_cmd_convert.specs.Bytes.Format.{FileSpells};
-ghost use Rattle.cjc_cmd_convert.specs.ClassFile.ClassFile as Reader;
-ghost use Rattle.cjc_cmd_convert.specs.ExportFile.ExportFile.{export_file};
+ghost use Rattle.cjc_cmd_card.specs.Bytes.Format.{FileSpells};
+ghost use Rattle.cjc_cmd_card.specs.ClassFile.ClassFile as Reader;
+ghost use Rattle.cjc_cmd_card.specs.ExportFile.ExportFile.{export_file};
 ghost use Rattle.cjc_cmd_make.specs.Package.ClassFile.{file_bytes};
 ghost use Rattle.cjc_cmd_make.specs.Package.Classes.{class_with};
 ghost use Rattle.cjc_cmd_make.specs.Package.Lang.{lang_file};

@@ -1,4 +1,3 @@
-pub mod Gathers
 pub mod Free
 pub mod OneAnswer
 pub mod Spelt

@@ -1,10 +1,9 @@
-pub mod Reads
 pub mod Verify
 pub mod Working
 -- Definitions of lower crates, for those above.
-pub mod List
-pub mod ClassFile
-pub mod ExportFile
-pub mod CapRead
-pub mod CheckRules
-pub mod CmdCheck
+pub mod Script
+pub mod ScriptText
+pub mod CapWrite
+pub mod Judge
+pub mod CmdJvm
+pub mod CmdCard

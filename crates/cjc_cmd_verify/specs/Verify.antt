@@ -1,27 +1,27 @@
 -- What `verify LIST DIR` tests, and what it prints: whether the components of a folder are typed by token as the
 -- package is that a list names.
 use Rattle.std.specs.Prelude.{◌≡◌, ℕ, List, [], ◌∷◌, Some, Result, Ok, Err}
-use Rattle.cjc_verify_theorem.specs.CheckRules.Complete.{Complete, complete}
+use Rattle.cjc_cmd_card.specs.CheckRules.Complete.{Complete, complete}
 use Rattle.cjc_cmd_card.specs.Report.Runs as by_token
 use Rattle.cjc_cmd_card.specs.Running.Ready.{IsReady}
 use Rattle.cjc_cmd_card.specs.declared.running.input.Input.{Input}
 use Rattle.cjc_cmd_card.specs.declared.running.ready.Ready.{Ready}
-use Rattle.cjc_verify_theorem.specs.CapRead.declared.tree.CapTree.{CapTree}
-use Rattle.cjc_cmd_card.specs.LowerCmdCheck.Check.{ok_line}
-use Rattle.cjc_cmd_card.specs.LowerCmdCheck.Folder.Breaks.{cap_in}
-use Rattle.cjc_cmd_card.specs.LowerShelf.Command.Plan.{Plan, has, ◌>>=◌}
-use Rattle.cjc_cmd_card.specs.LowerShelf.declared.command.status.Todo.{Todo}
-use Rattle.cjc_cmd_verify.specs.Reads.{plan_of_input}
-use Rattle.cjc_verify_theorem.specs.Bytecode.PackageCodes.{all_codes}
-use Rattle.cjc_verify_theorem.specs.Bytes.Breaks.{Break}
-use Rattle.cjc_verify_theorem.specs.Bytes.declared.fault.Refusal.{Refusal}
-use Rattle.cjc_verify_theorem.specs.Clinit.Image.{IsImage}
-use Rattle.cjc_cmd_card.specs.Judge.Rules.{IsFirstRefused, OnLevels, files_spelt, has_applets}
-use Rattle.cjc_cmd_card.specs.Judge.Spelt.{FileTree, SpellTrees, classes_of}
-use Rattle.cjc_verify_theorem.specs.World.declared.image.StaticImage.{StaticImage}
-use Rattle.cjc_verify_theorem.specs.Components.Paired.Pairs.{ArePaired}
-use Rattle.cjc_verify_theorem.specs.LowerVerify.Pairs.{pair_of}
-use Rattle.cjc_verify_theorem.specs.LowerVerify.Verified.{Breaks, IsVerified}
+use Rattle.cjc_cmd_card.specs.CapRead.declared.tree.CapTree.{CapTree}
+use Rattle.cjc_cmd_card.specs.CmdCheck.Check.{ok_line}
+use Rattle.cjc_cmd_card.specs.CmdCheck.Folder.Breaks.{cap_in}
+use Rattle.cjc_cmd_card.specs.Shelf.Command.Plan.{Plan, has, ◌>>=◌}
+use Rattle.cjc_cmd_card.specs.Shelf.declared.command.status.Todo.{Todo}
+use Rattle.cjc_cmd_card.specs.Running.Package.{plan_of_input}
+use Rattle.cjc_cmd_card.specs.Bytecode.PackageCodes.{all_codes}
+use Rattle.cjc_cmd_card.specs.Bytes.Breaks.{Break}
+use Rattle.cjc_cmd_card.specs.Bytes.declared.fault.Refusal.{Refusal}
+use Rattle.cjc_cmd_card.specs.Clinit.Image.{IsImage}
+use Rattle.cjc_verify_theorem.specs.Judge.Rules.{IsFirstRefused, OnLevels, files_spelt, has_applets}
+use Rattle.cjc_verify_theorem.specs.Judge.Spelt.{FileTree, SpellTrees, classes_of}
+use Rattle.cjc_cmd_card.specs.World.declared.image.StaticImage.{StaticImage}
+use Rattle.cjc_cmd_card.specs.Components.Paired.Pairs.{ArePaired}
+use Rattle.cjc_verify_theorem.specs.Verify.Pairs.{pair_of}
+use Rattle.cjc_verify_theorem.specs.Verify.Verified.{Breaks, IsVerified}
 use Rattle.cjc_verify_theorem.specs.FairExports.Fair.{ExportsAreFair}
 use Rattle.cjc_verify_theorem.specs.NeverStuck.{IsNeverStuck}
 

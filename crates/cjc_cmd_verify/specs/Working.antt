@@ -3,9 +3,9 @@ use Rattle.std.specs.Prelude.{[]}
 use Rattle.cjc_cmd_card.specs.Running.Ready.{IsReady}
 use Rattle.cjc_cmd_card.specs.declared.running.input.Input.{Input}
 use Rattle.cjc_cmd_card.specs.declared.running.ready.Ready.{Ready}
-use Rattle.cjc_verify_theorem.specs.CapRead.declared.tree.CapTree.{CapTree}
-use Rattle.cjc_cmd_card.specs.ScriptText.Scripted.{ScriptTree}
-use Rattle.cjc_cmd_card.specs.Judge.declared.judged.Judged.{Judged}
+use Rattle.cjc_cmd_card.specs.CapRead.declared.tree.CapTree.{CapTree}
+use Rattle.cjc_cmd_card.specs.LowerScriptText.Scripted.{ScriptTree}
+use Rattle.cjc_verify_theorem.specs.Judge.declared.judged.Judged.{Judged}
 
 -- what was tested, with a script
 abbrev pub ready_of : Judged → CapTree → ScriptTree → Ready

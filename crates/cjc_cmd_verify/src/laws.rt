@@ -2,9 +2,9 @@
 
 ghost use Rattle.std.specs.Prelude.{◌≡◌, Ok, Err};
 ghost use Rattle.cjc_cmd_card.specs.declared.running.input.Input.{Input};
-ghost use Rattle.cjc_cmd_card.specs.LowerShelf.declared.command.status.Todo.{Todo};
+ghost use Rattle.cjc_cmd_card.specs.Shelf.declared.command.status.Todo.{Todo};
 ghost use Rattle.cjc_cmd_verify.specs.Verify.{Verifies};
-ghost use Rattle.cjc_verify_theorem.specs.Bytes.declared.fault.Refusal.{Refusal};
+ghost use Rattle.cjc_cmd_card.specs.Bytes.declared.fault.Refusal.{Refusal};
 
 use cjc_cmd_card::check_rules::consistent_where_unbroken;
 

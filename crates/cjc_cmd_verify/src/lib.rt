@@ -14,7 +14,6 @@ pub mod cmd_card {
 
 mod bytes;
 mod laws;
-mod reads;
 mod verifying;
 
 pub use laws::one_answer;

@@ -2,19 +2,18 @@
 //! of a list is. The program's top call calls it; it knows no instruction. Nothing here writes.
 
 ghost use Rattle.std.specs.Prelude.{◌≡◌, Some, IfErr, IfOk, OnOk};
-ghost use Rattle.cjc_verify_theorem.specs.CheckIndex.Lookup.Parts.{complete_of};
-ghost use Rattle.cjc_verify_theorem.specs.CheckRules.Complete.{AreSmall, Complete, complete};
+ghost use Rattle.cjc_cmd_card.specs.CheckIndex.Lookup.Parts.{complete_of};
+ghost use Rattle.cjc_cmd_card.specs.CheckRules.Complete.{AreSmall, Complete, complete};
 ghost use Rattle.cjc_cmd_card.specs.Running.Reads.{IsInput};
-ghost use Rattle.cjc_cmd_card.specs.LowerShelf.Command.Gather.{Gathers, Judged as JudgedBy};
+ghost use Rattle.cjc_cmd_card.specs.Shelf.Command.Gather.{Gathers, Judged as JudgedBy};
 ghost use Rattle.cjc_cmd_verify.specs.Verify.{AnyBreaks, AreTyped, Verifies, plan_of_verify};
 ghost use Rattle.cjc_cmd_verify.specs.Working.{AreChecked};
-ghost use Rattle.cjc_verify_theorem.specs.Clinit.Image.{IsImage};
-ghost use Rattle.cjc_cmd_card.specs.Judge.Rules.{IsFirstFault};
-ghost use Rattle.cjc_verify_theorem.specs.Components.Paired.Pairs.{ArePaired};
+ghost use Rattle.cjc_cmd_card.specs.Clinit.Image.{IsImage};
+ghost use Rattle.cjc_verify_theorem.specs.Judge.Rules.{IsFirstFault};
+ghost use Rattle.cjc_cmd_card.specs.Components.Paired.Pairs.{ArePaired};
 ghost use Rattle.cjc_verify_theorem.specs.Passed.{AreBytes};
 
 use crate::bytes::are_bytes;
-use crate::reads::gather_input;
 use cjc_cmd_card::bytes::{Fault, NoMemory};
 use cjc_cmd_card::check::Checked;
 use cjc_cmd_card::check_index::lookup::{Parts, parts_of};
@@ -23,7 +22,7 @@ use cjc_cmd_card::cmd_check::checking::print_ok;
 use cjc_cmd_card::cmd_check::folder::Parts as Folder;
 use cjc_cmd_card::judge::{Judged, image_of, tokens_of};
 use cjc_cmd_card::pairing::test_pair;
-use cjc_cmd_card::running::{Input, Ready, make_ready};
+use cjc_cmd_card::running::{Input, Ready, gather_package, make_ready};
 use cjc_cmd_card::shelf::Shelf;
 use cjc_cmd_card::shelf::command::{Status, Todo};
 use cjc_cmd_card::world::StaticImage;
@@ -158,6 +157,6 @@ pub fn gather_verify<S: Shelf>(
 ) -> Result<Todo, Status>
     ensures { Gathers (plan_of_verify name.now dir.now) Verifies (S.shelved shelf.old) (S.shelved shelf.new) result }
 {
-    let input = gather_input(alloc, name, dir, shelf)?;
+    let input = gather_package(alloc, name, dir, shelf)?;
     judge(alloc, &input)
 }

@@ -12,6 +12,6 @@ pub mod Rules
 pub mod PackageCodes
 pub mod ReadLaws
 -- Definitions of lower crates, for those above.
-pub mod LowerBytes
-pub mod LowerRange
-pub mod LowerClassFile
+pub mod Bytes
+pub mod Range
+pub mod ClassFile

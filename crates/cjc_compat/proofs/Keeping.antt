@@ -5,9 +5,9 @@ use Rattle.std.specs.Prelude.{◌&&◌, ◌||◌, ◌==◌, not, if◌then◌els
 use Rattle.std.specs.List.{list_any}
 use Rattle.std.specs.Str.{bytes_eq}
 use Rattle.std.proofs.lemmas.Bool.Decides.{nat_tests}
-use Rattle.cjc_export.specs.LowerBytes.AccessFlags.{is_interface, is_static}
-use Rattle.cjc_export.specs.LowerBytes.Breaks.{Break, at, each_from}
-use Rattle.cjc_export.specs.LowerBytes.Order.{FilePlace}
+use Rattle.cjc_export.specs.Bytes.AccessFlags.{is_interface, is_static}
+use Rattle.cjc_export.specs.Bytes.Breaks.{Break, at, each_from}
+use Rattle.cjc_export.specs.Bytes.Order.{FilePlace}
 use Rattle.cjc_export.proofs.BytesLists.{bytes_true, empty_both}
 use Rattle.cjc_export.proofs.BytesBools.{not_false}
 use Rattle.cjc_export.proofs.BytesBrokenRules.{not_broken}

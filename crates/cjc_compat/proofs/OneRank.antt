@@ -3,9 +3,9 @@ use Rattle.std.proofs.Common.{◌≡◌, ℕ, zero, suc, ◌+◌, ◌<◌, refl,
 use Rattle.std.proofs.Common.{[], ◌∷◌, ◌++◌, length, map, inl, inr, Option, Some, None, add-one}
 use Rattle.std.specs.Prelude.{slice_get}
 use Rattle.std.proofs.lemmas.List.{length-map}
-use Rattle.cjc_export.specs.LowerBytes.Breaks.{Among, Break, RulePlace, at, broken_at, class_spot, each_from}
-use Rattle.cjc_export.specs.LowerBytes.Order.{FilePlace, Rank}
-use Rattle.cjc_export.specs.LowerBytes.Refused.{field_text, in_class, method_text}
+use Rattle.cjc_export.specs.Bytes.Breaks.{Among, Break, RulePlace, at, broken_at, class_spot, each_from}
+use Rattle.cjc_export.specs.Bytes.Order.{FilePlace, Rank}
+use Rattle.cjc_export.specs.Bytes.Refused.{field_text, in_class, method_text}
 use Rattle.cjc_export.proofs.BytesFirsts.{among_either}
 use Rattle.cjc_export.proofs.BytesBrokenRules.{none_among, in_at}
 use Rattle.cjc_compat.specs.Rules.{at_class, at_field, at_method, breaks, class_breaks, is_less, is_lost_field}

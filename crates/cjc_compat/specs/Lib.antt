@@ -1,3 +1,5 @@
 pub mod Rules
 pub mod References
 pub mod Working
+-- Definitions of lower crates, for those above.
+pub mod ExportFile

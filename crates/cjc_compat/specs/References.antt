@@ -2,7 +2,7 @@
 -- and 6.7), and what a new version of an export file keeps of that.
 use Rattle.std.specs.Prelude.{◌≡◌, ◌||◌, ℕ, Bool, true, false, if◌then◌else◌, List, Some, codes, slice_get}
 use Rattle.std.specs.Str.{bytes_eq}
-use Rattle.cjc_export.specs.LowerBytes.AccessFlags.{is_interface, is_static}
+use Rattle.cjc_export.specs.Bytes.AccessFlags.{is_interface, is_static}
 use Rattle.cjc_compat.specs.Rules.{is_constant}
 use Rattle.cjc_export.specs.Supers.{is_one_of}
 use Rattle.cjc_export.specs.declared.tree.ExportClass.{ExportClass}

@@ -5,11 +5,11 @@ use Rattle.std.specs.Prelude.{ℕ, ◌+◌, ◌==◌, ◌&&◌, ◌||◌, not, n
 use Rattle.std.specs.Prelude.{◌∷◌, ◌++◌, length, is_some, Option, Some, None}
 use Rattle.std.specs.List.{find, list_any}
 use Rattle.std.specs.Str.{bytes_eq}
-use Rattle.cjc_export.specs.LowerBytes.AccessFlags.{acc_shareable, has, is_abstract, is_final, is_interface, is_static}
-use Rattle.cjc_export.specs.LowerBytes.Breaks.{Break, RulePlace, at, class_spot, each, member_spot}
-use Rattle.cjc_export.specs.LowerBytes.Order.{FilePlace}
-use Rattle.cjc_export.specs.LowerBytes.Refused.{field_text, method_text}
-use Rattle.cjc_export.specs.LowerBytes.declared.order.FileKey.TheVariants as keys
+use Rattle.cjc_export.specs.Bytes.AccessFlags.{acc_shareable, has, is_abstract, is_final, is_interface, is_static}
+use Rattle.cjc_export.specs.Bytes.Breaks.{Break, RulePlace, at, class_spot, each, member_spot}
+use Rattle.cjc_export.specs.Bytes.Order.{FilePlace}
+use Rattle.cjc_export.specs.Bytes.Refused.{field_text, method_text}
+use Rattle.cjc_export.specs.Bytes.declared.order.FileKey.TheVariants as keys
 use Rattle.cjc_export.specs.Supers.{is_one_of, is_virtual}
 use Rattle.cjc_export.specs.declared.tree.ExportClass.{ExportClass}
 use Rattle.cjc_export.specs.declared.tree.ExportField.{ExportField}

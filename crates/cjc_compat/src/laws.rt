@@ -1,7 +1,7 @@
 //! What a new version that breaks none of 741 to 745 keeps. `compat` and the command's promise rest on it.
 
 ghost use Rattle.std.specs.Prelude.{◌≡◌, ℕ, List, []};
-ghost use Rattle.cjc_export.specs.LowerBytes.Breaks.{Among, Break};
+ghost use Rattle.cjc_export.specs.Bytes.Breaks.{Among, Break};
 ghost use Rattle.cjc_compat.specs.References.{KeepsReferences};
 ghost use Rattle.cjc_compat.specs.Rules.{breaks};
 ghost use Rattle.cjc_export.specs.declared.tree.ExportTree.{ExportTree};

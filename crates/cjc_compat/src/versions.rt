@@ -1,9 +1,9 @@
 //! Which of rules 741 to 745 is broken first, and where. The command `compat` calls it.
 
 ghost use Rattle.std.specs.Prelude.{◌≡◌, ℕ, [], option_map, IfErr, IfOk, OnOk};
-ghost use Rattle.cjc_export.specs.LowerBytes.Breaks.{IsFirstOf, IsFirstRefusal, at, each};
-ghost use Rattle.cjc_export.specs.LowerBytes.Order.{FilePlace};
-ghost use Rattle.cjc_export.specs.LowerBytes.Told.{break_of, file_place_of, spot_of};
+ghost use Rattle.cjc_export.specs.Bytes.Breaks.{IsFirstOf, IsFirstRefusal, at, each};
+ghost use Rattle.cjc_export.specs.Bytes.Order.{FilePlace};
+ghost use Rattle.cjc_export.specs.Bytes.Told.{break_of, file_place_of, spot_of};
 ghost use Rattle.cjc_compat.specs.References.{KeepsReferences};
 ghost use Rattle.cjc_compat.specs.Rules.{at_class, at_field, at_method, breaks, class_breaks, is_lost_field};
 ghost use Rattle.cjc_compat.specs.Rules.{is_lost_method, kept_breaks, with_token};

@@ -23,10 +23,8 @@ pub use Rattle.cjc_vtable.proofs.SlotNames as VTableSlotNames
 pub use Rattle.cjc_vtable.proofs.Worlds as VTableWorlds
 pub use Rattle.cjc_clinit.proofs.Cells as ClinitCells
 pub use Rattle.cjc_clinit.proofs.OneImage as ClinitOneImage
-pub use Rattle.cjc_narrow.proofs.TypesLeast as TypesLeast
 pub use Rattle.cjc_narrow.proofs.KeysLaws.Indices as NarrowIndices
 pub use Rattle.cjc_narrow.proofs.PairsLaws.Roles as NarrowRoles
-pub use Rattle.cjc_narrow.proofs.RowsLaws.Handlers as NarrowHandlers
 pub use Rattle.cjc_emit.proofs.LayoutLowered as LayoutLowered
 pub use Rattle.cjc_emit.proofs.LayoutPlaces as LayoutPlaces
 pub use Rattle.cjc_emit.proofs.EmitLaws.Forms as EmitForms

@@ -2,22 +2,22 @@
 use Rattle.std.specs.Prelude.{ℕ, ◌+◌, ◌==◌, ◌&&◌, ◌||◌, List, [], map, slice_get, unwrap_or, count_by, Bool, true}
 use Rattle.std.specs.Prelude.{false, if◌then◌else◌, Option, Some, None}
 use Rattle.std.specs.Str.{bytes_eq}
-use Rattle.cjc_clinit.specs.Bytes.AccessFlags.{is_interface}
-use Rattle.cjc_narrow.specs.CapRead.declared.tree.ClassRef.{ClassRef}
-use Rattle.cjc_narrow.specs.CapRead.declared.tree.ClassInfo.{ClassInfo}
-use Rattle.cjc_narrow.specs.CapRead.declared.tree.InterfaceEntry.{InterfaceEntry}
-use Rattle.cjc_narrow.specs.CapRead.declared.tree.ClassEntry.{ClassEntry}
-use Rattle.cjc_narrow.specs.CapRead.declared.tree.ImplementedInterface.{ImplementedInterface}
-use Rattle.cjc_vtable.specs.ClassFile.declared.tree.ClassTree.{ClassTree}
-use Rattle.cjc_vtable.specs.ClassFile.declared.tree.FieldTree.{FieldTree}
-use Rattle.cjc_vtable.specs.World.declared.found.Found.{Found}
-use Rattle.cjc_vtable.specs.World.Files.{Files}
-use Rattle.cjc_vtable.specs.World.Classes.{Class}
-use Rattle.cjc_vtable.specs.World.Interfaces.{known, is_among}
-use Rattle.cjc_vtable.specs.World.Exported.{shareable}
-use Rattle.cjc_vtable.specs.World.Order.{in_order}
-use Rattle.cjc_vtable.specs.Tokens.Fields.{is_instance, is_reference, group, instance_cells, cells_of}
-use Rattle.cjc_vtable.specs.Tokens.Methods.{interfaces_at}
+use Rattle.cjc_list.specs.Bytes.AccessFlags.{is_interface}
+use Rattle.cjc_capwrite.specs.CapRead.declared.tree.ClassRef.{ClassRef}
+use Rattle.cjc_capwrite.specs.CapRead.declared.tree.ClassInfo.{ClassInfo}
+use Rattle.cjc_capwrite.specs.CapRead.declared.tree.InterfaceEntry.{InterfaceEntry}
+use Rattle.cjc_capwrite.specs.CapRead.declared.tree.ClassEntry.{ClassEntry}
+use Rattle.cjc_capwrite.specs.CapRead.declared.tree.ImplementedInterface.{ImplementedInterface}
+use Rattle.cjc_clinit.specs.ClassFile.declared.tree.ClassTree.{ClassTree}
+use Rattle.cjc_clinit.specs.ClassFile.declared.tree.FieldTree.{FieldTree}
+use Rattle.cjc_clinit.specs.World.declared.found.Found.{Found}
+use Rattle.cjc_clinit.specs.World.Files.{Files}
+use Rattle.cjc_clinit.specs.World.Classes.{Class}
+use Rattle.cjc_clinit.specs.World.Interfaces.{known, is_among}
+use Rattle.cjc_clinit.specs.World.Exported.{shareable}
+use Rattle.cjc_clinit.specs.World.Order.{in_order}
+use Rattle.cjc_vtable.specs.LowerTokens.Fields.{is_instance, is_reference, group, instance_cells, cells_of}
+use Rattle.cjc_vtable.specs.LowerTokens.Methods.{interfaces_at}
 use Rattle.cjc_vtable.specs.declared.table.InterfaceMap.{InterfaceMap}
 use Rattle.cjc_vtable.specs.Tables.{table_of}
 use Rattle.cjc_components.specs.Package.{Package, world}

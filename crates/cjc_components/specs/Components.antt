@@ -2,25 +2,25 @@
 use Rattle.std.specs.Prelude.{ℕ, ◌+◌, List, [], ◌∷◌, ◌++◌, map, flat_map, length, replicate, Bool, false, ◌||◌}
 use Rattle.std.specs.Prelude.{if◌then◌else◌, Option, Some, None, is_some, codes}
 use Rattle.std.specs.List.{list_any}
-use Rattle.cjc_clinit.specs.Bytes.declared.settings.AppletLine.{AppletLine}
-use Rattle.cjc_narrow.specs.CapRead.declared.tree.Header.{Header}
-use Rattle.cjc_narrow.specs.CapRead.declared.tree.Directory.{Directory}
-use Rattle.cjc_narrow.specs.CapRead.declared.tree.Applet.{Applet}
-use Rattle.cjc_narrow.specs.CapRead.declared.tree.AppletEntry.{AppletEntry}
-use Rattle.cjc_narrow.specs.CapRead.declared.tree.Import.{Import}
-use Rattle.cjc_narrow.specs.CapRead.declared.tree.ImportedPackage.{ImportedPackage}
-use Rattle.cjc_narrow.specs.CapRead.declared.tree.Method.{Method}
-use Rattle.cjc_narrow.specs.CapRead.declared.tree.ReferenceLocation.{ReferenceLocation}
-use Rattle.cjc_narrow.specs.CapRead.declared.tree.CapTree.{CapTree}
+use Rattle.cjc_list.specs.Bytes.declared.settings.AppletLine.{AppletLine}
+use Rattle.cjc_capwrite.specs.CapRead.declared.tree.Header.{Header}
+use Rattle.cjc_capwrite.specs.CapRead.declared.tree.Directory.{Directory}
+use Rattle.cjc_capwrite.specs.CapRead.declared.tree.Applet.{Applet}
+use Rattle.cjc_capwrite.specs.CapRead.declared.tree.AppletEntry.{AppletEntry}
+use Rattle.cjc_capwrite.specs.CapRead.declared.tree.Import.{Import}
+use Rattle.cjc_capwrite.specs.CapRead.declared.tree.ImportedPackage.{ImportedPackage}
+use Rattle.cjc_capwrite.specs.CapRead.declared.tree.Method.{Method}
+use Rattle.cjc_capwrite.specs.CapRead.declared.tree.ReferenceLocation.{ReferenceLocation}
+use Rattle.cjc_capwrite.specs.CapRead.declared.tree.CapTree.{CapTree}
 use Rattle.cjc_capwrite.specs.Size.{info_of}
-use Rattle.cjc_vtable.specs.ExportFile.declared.tree.ExportTree.{ExportTree}
+use Rattle.cjc_check_rules.specs.ExportFile.declared.tree.ExportTree.{ExportTree}
 use Rattle.cjc_check_rules.specs.Locations.{distances, catch_places}
 use Rattle.cjc_check_rules.specs.Listed.{array_bytes, applet_count}
-use Rattle.cjc_vtable.specs.World.Lookup.{find_method}
-use Rattle.cjc_vtable.specs.World.Classes.{Class}
-use Rattle.cjc_vtable.specs.Subset.Types.{is_int_desc}
-use Rattle.cjc_narrow.specs.NCode.Lowering.Placed.{Placed}
-use Rattle.cjc_narrow.specs.NCode.Lowering.Package.{all_bytes, all_handlers}
+use Rattle.cjc_clinit.specs.World.Lookup.{find_method}
+use Rattle.cjc_clinit.specs.World.Classes.{Class}
+use Rattle.cjc_clinit.specs.Subset.Types.{is_int_desc}
+use Rattle.cjc_emit.specs.NCode.Lowering.Placed.{Placed}
+use Rattle.cjc_emit.specs.NCode.Lowering.Package.{all_bytes, all_handlers}
 use Rattle.cjc_emit.specs.Emitted.{code_places}
 use Rattle.cjc_components.specs.Package.{Package, world, has_applets}
 use Rattle.cjc_components.specs.Methods.{placed_methods}

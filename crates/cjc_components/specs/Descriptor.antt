@@ -1,29 +1,29 @@
 -- Descriptor: the classes of a package with their members, and types (Java Card Virtual Machine Specification 2.2.2,
 -- section 6.13).
 use Rattle.std.specs.Prelude.{ℕ, ◌+◌, ◌-◌, List, [], ◌∷◌, ◌++◌, map, length, slice_get, unwrap_or, Some, if◌then◌else◌}
-use Rattle.cjc_clinit.specs.Bytes.AccessFlags.{has, is_static, acc_public, acc_private, acc_protected, acc_static}
-use Rattle.cjc_clinit.specs.Bytes.AccessFlags.{acc_final}
-use Rattle.cjc_clinit.specs.Bytes.AccessFlags.{acc_interface, acc_abstract}
-use Rattle.cjc_narrow.specs.CapRead.declared.tree.FieldDescriptor.{FieldDescriptor}
-use Rattle.cjc_narrow.specs.CapRead.declared.tree.FieldPlace.{FieldPlace}
-use Rattle.cjc_narrow.specs.CapRead.declared.tree.FieldPlace.TheVariants as places
-use Rattle.cjc_narrow.specs.CapRead.declared.tree.FieldType.{FieldType}
-use Rattle.cjc_narrow.specs.CapRead.declared.tree.FieldType.TheVariants as types
-use Rattle.cjc_narrow.specs.CapRead.declared.tree.MethodDescriptor.{MethodDescriptor}
-use Rattle.cjc_narrow.specs.CapRead.declared.tree.ClassDescriptor.{ClassDescriptor}
-use Rattle.cjc_narrow.specs.CapRead.declared.tree.Descriptor.{Descriptor}
-use Rattle.cjc_narrow.specs.Script.Sorts.{Sort, Boolean, Byte, Short, Int, Reference, NoValue, field_sort}
-use Rattle.cjc_vtable.specs.ClassFile.declared.tree.FieldTree.{FieldTree}
-use Rattle.cjc_vtable.specs.World.declared.found.Found.{Found}
-use Rattle.cjc_vtable.specs.World.Classes.{Member, Class}
-use Rattle.cjc_vtable.specs.World.Added.{added}
-use Rattle.cjc_vtable.specs.World.Lookup.{member_at}
-use Rattle.cjc_vtable.specs.World.Order.{class_order, methods_of_class}
-use Rattle.cjc_vtable.specs.Tokens.Fields.{is_constant}
-use Rattle.cjc_vtable.specs.Tokens.Members.{is_constructor}
-use Rattle.cjc_vtable.specs.Tokens.Tokens.{token_of_class}
+use Rattle.cjc_list.specs.Bytes.AccessFlags.{has, is_static, acc_public, acc_private, acc_protected, acc_static}
+use Rattle.cjc_list.specs.Bytes.AccessFlags.{acc_final}
+use Rattle.cjc_list.specs.Bytes.AccessFlags.{acc_interface, acc_abstract}
+use Rattle.cjc_capwrite.specs.CapRead.declared.tree.FieldDescriptor.{FieldDescriptor}
+use Rattle.cjc_capwrite.specs.CapRead.declared.tree.FieldPlace.{FieldPlace}
+use Rattle.cjc_capwrite.specs.CapRead.declared.tree.FieldPlace.TheVariants as places
+use Rattle.cjc_capwrite.specs.CapRead.declared.tree.FieldType.{FieldType}
+use Rattle.cjc_capwrite.specs.CapRead.declared.tree.FieldType.TheVariants as types
+use Rattle.cjc_capwrite.specs.CapRead.declared.tree.MethodDescriptor.{MethodDescriptor}
+use Rattle.cjc_capwrite.specs.CapRead.declared.tree.ClassDescriptor.{ClassDescriptor}
+use Rattle.cjc_capwrite.specs.CapRead.declared.tree.Descriptor.{Descriptor}
+use Rattle.cjc_emit.specs.Script.Sorts.{Sort, Boolean, Byte, Short, Int, Reference, NoValue, field_sort}
+use Rattle.cjc_clinit.specs.ClassFile.declared.tree.FieldTree.{FieldTree}
+use Rattle.cjc_clinit.specs.World.declared.found.Found.{Found}
+use Rattle.cjc_clinit.specs.World.Classes.{Member, Class}
+use Rattle.cjc_clinit.specs.World.Added.{added}
+use Rattle.cjc_clinit.specs.World.Lookup.{member_at}
+use Rattle.cjc_clinit.specs.World.Order.{class_order, methods_of_class}
+use Rattle.cjc_vtable.specs.LowerTokens.Fields.{is_constant}
+use Rattle.cjc_vtable.specs.LowerTokens.Members.{is_constructor}
+use Rattle.cjc_vtable.specs.LowerTokens.Tokens.{token_of_class}
 use Rattle.cjc_clinit.specs.Image.{field_id}
-use Rattle.cjc_narrow.specs.NCode.declared.narrow.PoolKey.{PoolKey}
+use Rattle.cjc_emit.specs.NCode.declared.narrow.PoolKey.{PoolKey}
 use Rattle.cjc_components.specs.Package.{Package, world, tokens, pool}
 use Rattle.cjc_components.specs.Methods.{Extent, extent_of}
 use Rattle.cjc_components.specs.Class.{fields_of, interfaces_of}

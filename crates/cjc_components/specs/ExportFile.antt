@@ -1,23 +1,23 @@
 -- The export file of a package (Java Card Virtual Machine Specification 2.2.2, chapter 5).
 use Rattle.std.specs.Prelude.{ℕ, ◌+◌, ◌-◌, ◌&&◌, ◌||◌, List, [], ◌∷◌, ◌++◌, map, length, unwrap_or, bit_and, Bool, true}
 use Rattle.std.specs.Prelude.{not, if◌then◌else◌, Option, Some, None, option_and_then, option_map}
-use Rattle.cjc_clinit.specs.Bytes.AccessFlags.{is_interface, acc_super, acc_shareable}
-use Rattle.cjc_vtable.specs.ClassFile.declared.tree.FieldTree.{FieldTree}
-use Rattle.cjc_vtable.specs.ExportFile.declared.tree.ExportField.{ExportField}
-use Rattle.cjc_vtable.specs.ExportFile.declared.tree.ExportMethod.{ExportMethod}
-use Rattle.cjc_vtable.specs.ExportFile.declared.tree.ExportClass.{ExportClass}
-use Rattle.cjc_vtable.specs.ExportFile.declared.tree.ExportTree.{ExportTree}
-use Rattle.cjc_vtable.specs.World.declared.found.Found.{Found}
-use Rattle.cjc_vtable.specs.World.Classes.{Member, Class, class_at}
-use Rattle.cjc_vtable.specs.World.Added.{added}
-use Rattle.cjc_vtable.specs.World.Lookup.{member_at}
-use Rattle.cjc_vtable.specs.ClassOrder.Supers.Supers.{superclasses, interfaces}
-use Rattle.cjc_vtable.specs.Tokens.Members.{Signature, has as is_among, is_exposed, is_initialiser, signatures}
-use Rattle.cjc_vtable.specs.Tokens.Fields.{is_constant}
-use Rattle.cjc_vtable.specs.Tokens.Lines.{line_at}
-use Rattle.cjc_vtable.specs.Tokens.Slots.{row}
-use Rattle.cjc_vtable.specs.Tokens.Methods.{interface_methods, interface_row}
-use Rattle.cjc_vtable.specs.Tokens.Tokens.{token_of_class}
+use Rattle.cjc_list.specs.Bytes.AccessFlags.{is_interface, acc_super, acc_shareable}
+use Rattle.cjc_clinit.specs.ClassFile.declared.tree.FieldTree.{FieldTree}
+use Rattle.cjc_check_rules.specs.ExportFile.declared.tree.ExportField.{ExportField}
+use Rattle.cjc_check_rules.specs.ExportFile.declared.tree.ExportMethod.{ExportMethod}
+use Rattle.cjc_check_rules.specs.ExportFile.declared.tree.ExportClass.{ExportClass}
+use Rattle.cjc_check_rules.specs.ExportFile.declared.tree.ExportTree.{ExportTree}
+use Rattle.cjc_clinit.specs.World.declared.found.Found.{Found}
+use Rattle.cjc_clinit.specs.World.Classes.{Member, Class, class_at}
+use Rattle.cjc_clinit.specs.World.Added.{added}
+use Rattle.cjc_clinit.specs.World.Lookup.{member_at}
+use Rattle.cjc_vtable.specs.LowerClassOrder.Supers.Supers.{superclasses, interfaces}
+use Rattle.cjc_vtable.specs.LowerTokens.Members.{Signature, has as is_among, is_exposed, is_initialiser, signatures}
+use Rattle.cjc_vtable.specs.LowerTokens.Fields.{is_constant}
+use Rattle.cjc_vtable.specs.LowerTokens.Lines.{line_at}
+use Rattle.cjc_vtable.specs.LowerTokens.Slots.{row}
+use Rattle.cjc_vtable.specs.LowerTokens.Methods.{interface_methods, interface_row}
+use Rattle.cjc_vtable.specs.LowerTokens.Tokens.{token_of_class}
 use Rattle.cjc_vtable.specs.Tables.{is_own}
 use Rattle.cjc_components.specs.Package.{Package, world, tokens, has_applets}
 use Rattle.cjc_components.specs.Class.{fields_of, is_shareable}

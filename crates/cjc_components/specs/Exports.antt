@@ -1,14 +1,14 @@
 -- Export: what other packages can use, by token (Java Card Virtual Machine Specification 2.2.2, section 6.12).
 use Rattle.std.specs.Prelude.{ℕ, ◌+◌, List, [], ◌∷◌, ◌++◌, map, filter, length, unwrap_or, not, ◌&&◌, if◌then◌else◌}
 use Rattle.std.specs.Prelude.{Option, Some, None}
-use Rattle.cjc_narrow.specs.CapRead.declared.tree.Export.{Export}
-use Rattle.cjc_narrow.specs.CapRead.declared.tree.ExportedClass.{ExportedClass}
-use Rattle.cjc_vtable.specs.World.declared.found.Found.{Found}
-use Rattle.cjc_vtable.specs.World.Classes.{Member, Class}
-use Rattle.cjc_vtable.specs.World.Exported.{is_exported}
-use Rattle.cjc_vtable.specs.World.Lookup.{member_at}
-use Rattle.cjc_vtable.specs.Tokens.Fields.{is_open_static}
-use Rattle.cjc_vtable.specs.Tokens.Methods.{is_open_bound}
+use Rattle.cjc_capwrite.specs.CapRead.declared.tree.Export.{Export}
+use Rattle.cjc_capwrite.specs.CapRead.declared.tree.ExportedClass.{ExportedClass}
+use Rattle.cjc_clinit.specs.World.declared.found.Found.{Found}
+use Rattle.cjc_clinit.specs.World.Classes.{Member, Class}
+use Rattle.cjc_clinit.specs.World.Exported.{is_exported}
+use Rattle.cjc_clinit.specs.World.Lookup.{member_at}
+use Rattle.cjc_vtable.specs.LowerTokens.Fields.{is_open_static}
+use Rattle.cjc_vtable.specs.LowerTokens.Methods.{is_open_bound}
 use Rattle.cjc_clinit.specs.Image.{field_id}
 use Rattle.cjc_components.specs.Package.{Package, world, has_applets}
 use Rattle.cjc_components.specs.Methods.{method_offset}

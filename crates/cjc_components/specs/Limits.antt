@@ -1,16 +1,16 @@
 -- The limits of what is written for a package, and where each is broken.
 use Rattle.std.specs.Prelude.{ℕ, ◌+◌, ◌*◌, List, [], ◌∷◌, ◌++◌, flat_map, length, sum_by, nat_lt, Bool, ◌&&◌}
 use Rattle.std.specs.Prelude.{◌||◌, if◌then◌else◌, Option, Some, None}
-use Rattle.cjc_clinit.specs.Bytes.Breaks.{Break, RulePlace, at, broken_at, list_spot, class_spot, member_spot}
-use Rattle.cjc_clinit.specs.Bytes.Order.{file_of}
-use Rattle.cjc_clinit.specs.Bytes.Refused.{method_text}
+use Rattle.cjc_list.specs.Bytes.Breaks.{Break, RulePlace, at, broken_at, list_spot, class_spot, member_spot}
+use Rattle.cjc_list.specs.Bytes.Order.{file_of}
+use Rattle.cjc_list.specs.Bytes.Refused.{method_text}
 use Rattle.cjc_capwrite.specs.Files.{ends_too_far, is_too_large, infos_of}
-use Rattle.cjc_vtable.specs.ExportFile.Written.{constants}
-use Rattle.cjc_vtable.specs.Bytecode.PackageCodes.{all_codes}
-use Rattle.cjc_vtable.specs.World.declared.found.Found.{Found}
-use Rattle.cjc_vtable.specs.World.Classes.{Member, Class, class_at}
-use Rattle.cjc_vtable.specs.Subset.Ints.{any_works_on_int}
-use Rattle.cjc_emit.specs.Layout.Refusals.{overtaking, least}
+use Rattle.cjc_check_rules.specs.ExportFile.Written.{constants}
+use Rattle.cjc_clinit.specs.Bytecode.PackageCodes.{all_codes}
+use Rattle.cjc_clinit.specs.World.declared.found.Found.{Found}
+use Rattle.cjc_clinit.specs.World.Classes.{Member, Class, class_at}
+use Rattle.cjc_clinit.specs.Subset.Ints.{any_works_on_int}
+use Rattle.cjc_emit.specs.LowerLayout.Refusals.{overtaking, least}
 use Rattle.cjc_narrow.specs.Rows.Resolved.{argument_words}
 use Rattle.cjc_components.specs.Package.{LaidMethod, Package, world, pool}
 use Rattle.cjc_components.specs.Methods.{handler_count}

@@ -1,11 +1,11 @@
 -- Where the methods of a package stand in Method, one behind the other (Java Card Virtual Machine Specification 2.2.2,
 -- section 6.9).
 use Rattle.std.specs.Prelude.{ℕ, ◌+◌, ◌*◌, ◌==◌, ◌&&◌, List, [], ◌∷◌, length, sum_by, Bool, not, if◌then◌else◌}
-use Rattle.cjc_vtable.specs.World.declared.found.Found.{Found}
-use Rattle.cjc_narrow.specs.NCode.declared.narrow.NMethod.{NMethod}
-use Rattle.cjc_narrow.specs.NCode.Lowering.Placed.{Placed}
-use Rattle.cjc_emit.specs.Layout.Sizes.{code_size}
-use Rattle.cjc_emit.specs.Layout.Handlers.{table_order}
+use Rattle.cjc_clinit.specs.World.declared.found.Found.{Found}
+use Rattle.cjc_emit.specs.NCode.declared.narrow.NMethod.{NMethod}
+use Rattle.cjc_emit.specs.NCode.Lowering.Placed.{Placed}
+use Rattle.cjc_emit.specs.LowerLayout.Sizes.{code_size}
+use Rattle.cjc_emit.specs.LowerLayout.Handlers.{table_order}
 use Rattle.cjc_emit.specs.Emitted.{header_bytes}
 use Rattle.cjc_components.specs.Package.{LaidMethod, Package}
 

@@ -3,29 +3,29 @@
 use Rattle.std.specs.Prelude.{ℕ, List, [], map, position, unwrap_or, slice_get, option_map, option_and_then, Option}
 use Rattle.std.specs.Prelude.{Some, None, Bool, if◌then◌else◌}
 use Rattle.std.specs.Str.{bytes_eq}
-use Rattle.cjc_clinit.specs.Bytes.declared.fault.MemberId.{MemberId}
-use Rattle.cjc_narrow.specs.CapRead.declared.tree.ClassRef.{ClassRef}
-use Rattle.cjc_narrow.specs.CapRead.declared.tree.ClassRef.TheVariants.{Inside, Outside}
-use Rattle.cjc_narrow.specs.CapRead.declared.tree.StaticRef.{StaticRef}
-use Rattle.cjc_narrow.specs.CapRead.declared.tree.StaticRef.TheVariants as refs
-use Rattle.cjc_narrow.specs.CapRead.declared.tree.PoolEntry.{PoolEntry}
+use Rattle.cjc_list.specs.Bytes.declared.fault.MemberId.{MemberId}
+use Rattle.cjc_capwrite.specs.CapRead.declared.tree.ClassRef.{ClassRef}
+use Rattle.cjc_capwrite.specs.CapRead.declared.tree.ClassRef.TheVariants.{Inside, Outside}
+use Rattle.cjc_capwrite.specs.CapRead.declared.tree.StaticRef.{StaticRef}
+use Rattle.cjc_capwrite.specs.CapRead.declared.tree.StaticRef.TheVariants as refs
+use Rattle.cjc_capwrite.specs.CapRead.declared.tree.PoolEntry.{PoolEntry}
 use Rattle.cjc_check_rules.specs.Described.{all_starts}
-use Rattle.cjc_narrow.specs.CardSemantics.Machine.Loaded.{Loaded}
-use Rattle.cjc_narrow.specs.CardSemantics.Machine.Classes.{Class as CardClass, Own, External, external_from, or_else}
-use Rattle.cjc_narrow.specs.CardSemantics.Machine.Dispatch.{Open}
-use Rattle.cjc_narrow.specs.CardSemantics.Machine.Operations.{Fixed, Outer, Callee, token_of}
-use Rattle.cjc_vtable.specs.World.declared.found.Found.{Found}
-use Rattle.cjc_vtable.specs.World.Classes.{Class, class_named}
-use Rattle.cjc_vtable.specs.World.Lookup.{find_field, find_method}
-use Rattle.cjc_vtable.specs.World.Order.{class_order}
-use Rattle.cjc_vtable.specs.Tokens.Members.{Signature, same}
-use Rattle.cjc_vtable.specs.Tokens.Lines.{Line, line_of}
-use Rattle.cjc_vtable.specs.Tokens.Slots.{hidden_slots, shown_token, token}
-use Rattle.cjc_vtable.specs.Tokens.Methods.{interface_methods, with_high_bit}
-use Rattle.cjc_vtable.specs.Tokens.Tokens.{token_of_member}
+use Rattle.cjc_emit.specs.CardSemantics.Machine.Loaded.{Loaded}
+use Rattle.cjc_emit.specs.CardSemantics.Machine.Classes.{Class as CardClass, Own, External, external_from, or_else}
+use Rattle.cjc_emit.specs.CardSemantics.Machine.Dispatch.{Open}
+use Rattle.cjc_emit.specs.CardSemantics.Machine.Operations.{Fixed, Outer, Callee, token_of}
+use Rattle.cjc_clinit.specs.World.declared.found.Found.{Found}
+use Rattle.cjc_clinit.specs.World.Classes.{Class, class_named}
+use Rattle.cjc_clinit.specs.World.Lookup.{find_field, find_method}
+use Rattle.cjc_clinit.specs.World.Order.{class_order}
+use Rattle.cjc_vtable.specs.LowerTokens.Members.{Signature, same}
+use Rattle.cjc_vtable.specs.LowerTokens.Lines.{Line, line_of}
+use Rattle.cjc_vtable.specs.LowerTokens.Slots.{hidden_slots, shown_token, token}
+use Rattle.cjc_vtable.specs.LowerTokens.Methods.{interface_methods, with_high_bit}
+use Rattle.cjc_vtable.specs.LowerTokens.Tokens.{token_of_member}
 use Rattle.cjc_vtable.specs.Tables.{or_zero}
 use Rattle.cjc_vtable.specs.Calls.{finds_hidden}
-use Rattle.cjc_narrow.specs.NCode.Lowering.Naming.{Naming, entry_of}
+use Rattle.cjc_emit.specs.NCode.Lowering.Naming.{Naming, entry_of}
 use Rattle.cjc_narrow.specs.Keys.Index.{index_of}
 use Rattle.cjc_components.specs.Package.{Package, world, tokens, pool}
 use Rattle.cjc_components.specs.Methods.{method_offset}

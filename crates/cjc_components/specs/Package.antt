@@ -1,14 +1,14 @@
 -- What the components of a package are made of.
 use Rattle.std.specs.Prelude.{List, length, map, Bool, nat_lt}
 use Rattle.cjc_list.specs.Listed.{ListTree}
-use Rattle.cjc_vtable.specs.World.declared.found.Found.{Found}
-use Rattle.cjc_vtable.specs.World.declared.image.StaticImage.{StaticImage}
-use Rattle.cjc_vtable.specs.World.Files.{Files}
-use Rattle.cjc_vtable.specs.World.Classes.{Class, all_classes}
-use Rattle.cjc_vtable.specs.Tokens.Tokens.{Assigned, assigned}
-use Rattle.cjc_narrow.specs.NCode.declared.narrow.NMethod.{NMethod}
-use Rattle.cjc_narrow.specs.NCode.declared.narrow.PoolKey.{PoolKey}
-use Rattle.cjc_narrow.specs.NCode.PoolOrder.{pool_order}
+use Rattle.cjc_clinit.specs.World.declared.found.Found.{Found}
+use Rattle.cjc_clinit.specs.World.declared.image.StaticImage.{StaticImage}
+use Rattle.cjc_clinit.specs.World.Files.{Files}
+use Rattle.cjc_clinit.specs.World.Classes.{Class, all_classes}
+use Rattle.cjc_vtable.specs.LowerTokens.Tokens.{Assigned, assigned}
+use Rattle.cjc_emit.specs.NCode.declared.narrow.NMethod.{NMethod}
+use Rattle.cjc_emit.specs.NCode.declared.narrow.PoolKey.{PoolKey}
+use Rattle.cjc_emit.specs.NCode.PoolOrder.{pool_order}
 
 -- A method of a class, by what is written for it.
 pub record LaidMethod : Type 0 where

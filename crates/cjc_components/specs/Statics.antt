@@ -1,20 +1,20 @@
 -- StaticField: the static fields of a package and what they hold at first (Java Card Virtual Machine Specification
 -- 2.2.2, section 6.10).
 use Rattle.std.specs.Prelude.{ℕ, ◌+◌, ◌*◌, List, [], ◌∷◌, ◌++◌, map, length, flat_map, sum_by, if◌then◌else◌, ℤ}
-use Rattle.cjc_clinit.specs.Bytes.declared.fault.MemberId.{MemberId}
-use Rattle.cjc_clinit.specs.Bytes.declared.descriptor.Kind.{Kind}
-use Rattle.cjc_clinit.specs.Bytes.declared.descriptor.Kind.TheVariants as kinds
-use Rattle.cjc_narrow.specs.CapRead.declared.tree.ArrayInit.{ArrayInit}
-use Rattle.cjc_narrow.specs.CapRead.declared.tree.StaticField.{StaticField}
-use Rattle.cjc_narrow.specs.Script.declared.value.Value.TheVariants.{Num}
-use Rattle.cjc_narrow.specs.Script.Sorts.{Sort, Boolean, Byte, Short, Int, Reference, NoValue, field_sort}
-use Rattle.cjc_narrow.specs.CardSemantics.Bytecode.Effects.{Letter}
-use Rattle.cjc_narrow.specs.CardSemantics.Bytecode.Effects
-use Rattle.cjc_narrow.specs.CardSemantics.Machine.Statics.{number_bytes}
-use Rattle.cjc_vtable.specs.World.declared.image.ArrayCell.{ArrayCell}
-use Rattle.cjc_vtable.specs.World.declared.image.ValueCell.{ValueCell}
-use Rattle.cjc_vtable.specs.World.declared.image.StaticImage.{StaticImage}
-use Rattle.cjc_narrow.specs.NCode.PoolOrder.{same_member}
+use Rattle.cjc_list.specs.Bytes.declared.fault.MemberId.{MemberId}
+use Rattle.cjc_list.specs.Bytes.declared.descriptor.Kind.{Kind}
+use Rattle.cjc_list.specs.Bytes.declared.descriptor.Kind.TheVariants as kinds
+use Rattle.cjc_capwrite.specs.CapRead.declared.tree.ArrayInit.{ArrayInit}
+use Rattle.cjc_capwrite.specs.CapRead.declared.tree.StaticField.{StaticField}
+use Rattle.cjc_emit.specs.Script.declared.value.Value.TheVariants.{Num}
+use Rattle.cjc_emit.specs.Script.Sorts.{Sort, Boolean, Byte, Short, Int, Reference, NoValue, field_sort}
+use Rattle.cjc_emit.specs.CardSemantics.Bytecode.Effects.{Letter}
+use Rattle.cjc_emit.specs.CardSemantics.Bytecode.Effects
+use Rattle.cjc_emit.specs.CardSemantics.Machine.Statics.{number_bytes}
+use Rattle.cjc_clinit.specs.World.declared.image.ArrayCell.{ArrayCell}
+use Rattle.cjc_clinit.specs.World.declared.image.ValueCell.{ValueCell}
+use Rattle.cjc_clinit.specs.World.declared.image.StaticImage.{StaticImage}
+use Rattle.cjc_emit.specs.NCode.PoolOrder.{same_member}
 
 -- ---- cells
 

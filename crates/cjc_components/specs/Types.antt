@@ -2,23 +2,23 @@
 use Rattle.std.specs.Prelude.{ℕ, ◌+◌, ◌*◌, ◌/◌, ◌%◌, List, [], ◌∷◌, ◌++◌, map, flat_map, length, position, unwrap_or}
 use Rattle.std.specs.Prelude.{slice_get, option_and_then, Option, Some, None, if◌then◌else◌}
 use Rattle.std.specs.Str.{bytes_eq}
-use Rattle.cjc_narrow.specs.CapRead.declared.tree.ClassRef.{ClassRef}
-use Rattle.cjc_narrow.specs.CapRead.declared.tree.TypeDescriptor.{TypeDescriptor}
+use Rattle.cjc_capwrite.specs.CapRead.declared.tree.ClassRef.{ClassRef}
+use Rattle.cjc_capwrite.specs.CapRead.declared.tree.TypeDescriptor.{TypeDescriptor}
 use Rattle.cjc_capwrite.specs.Parts.{class_bytes}
 use Rattle.cjc_check_rules.specs.Spots.{starts}
 use Rattle.cjc_check_rules.specs.Complete.{type_size}
-use Rattle.cjc_narrow.specs.Script.Sorts.{Element, Booleans, Bytes, Shorts, Ints, Shape, OfClass, OfNumbers}
-use Rattle.cjc_narrow.specs.Script.Sorts.{OfReferences}
-use Rattle.cjc_narrow.specs.Script.Sorts.{Sort, Boolean, Byte, Short, Int, Reference, NoValue, Signature, field_sort}
-use Rattle.cjc_narrow.specs.Script.Sorts.{signature_of}
-use Rattle.cjc_vtable.specs.ClassFile.declared.tree.FieldTree.{FieldTree}
-use Rattle.cjc_vtable.specs.World.Classes.{Class}
-use Rattle.cjc_vtable.specs.World.Added.{added, without_initialiser}
-use Rattle.cjc_vtable.specs.World.Order.{class_order}
-use Rattle.cjc_vtable.specs.ClassOrder.Supers.Supers.{each_once}
+use Rattle.cjc_emit.specs.Script.Sorts.{Element, Booleans, Bytes, Shorts, Ints, Shape, OfClass, OfNumbers}
+use Rattle.cjc_emit.specs.Script.Sorts.{OfReferences}
+use Rattle.cjc_emit.specs.Script.Sorts.{Sort, Boolean, Byte, Short, Int, Reference, NoValue, Signature, field_sort}
+use Rattle.cjc_emit.specs.Script.Sorts.{signature_of}
+use Rattle.cjc_clinit.specs.ClassFile.declared.tree.FieldTree.{FieldTree}
+use Rattle.cjc_clinit.specs.World.Classes.{Class}
+use Rattle.cjc_clinit.specs.World.Added.{added, without_initialiser}
+use Rattle.cjc_clinit.specs.World.Order.{class_order}
+use Rattle.cjc_vtable.specs.LowerClassOrder.Supers.Supers.{each_once}
 use Rattle.cjc_clinit.specs.Fields.{is_reference}
-use Rattle.cjc_narrow.specs.NCode.declared.narrow.PoolKey.{PoolKey}
-use Rattle.cjc_narrow.specs.NCode.declared.narrow.PoolKey.TheVariants as keys
+use Rattle.cjc_emit.specs.NCode.declared.narrow.PoolKey.{PoolKey}
+use Rattle.cjc_emit.specs.NCode.declared.narrow.PoolKey.TheVariants as keys
 use Rattle.cjc_components.specs.Package.{Package, world, pool}
 use Rattle.cjc_components.specs.Class.{fields_of}
 use Rattle.cjc_components.specs.Names.{class_ref}

@@ -1,20 +1,20 @@
 -- What is written for a package: the narrow code of each of its methods, at the least choice of wide jumps.
 use Rattle.std.specs.Prelude.{◌≡◌, ℕ, List, [], map, slice_get, Bool, true, Option, Some, None}
-use Rattle.cjc_clinit.specs.Bytes.declared.fault.MemberId.{MemberId}
-use Rattle.cjc_vtable.specs.Bytecode.declared.method_code.MethodCode.{MethodCode}
+use Rattle.cjc_list.specs.Bytes.declared.fault.MemberId.{MemberId}
+use Rattle.cjc_clinit.specs.Bytecode.declared.method_code.MethodCode.{MethodCode}
 use Rattle.cjc_list.specs.Listed.{ListTree}
-use Rattle.cjc_vtable.specs.World.declared.found.Found.{Found}
-use Rattle.cjc_vtable.specs.World.Files.{Files}
-use Rattle.cjc_vtable.specs.World.Classes.{Class, all_classes, class_at}
-use Rattle.cjc_vtable.specs.World.Order.{method_order}
-use Rattle.cjc_narrow.specs.JvmSemantics.Linked.{Method}
-use Rattle.cjc_narrow.specs.JvmSemantics.OnePackage.{method_at}
+use Rattle.cjc_clinit.specs.World.declared.found.Found.{Found}
+use Rattle.cjc_clinit.specs.World.Files.{Files}
+use Rattle.cjc_clinit.specs.World.Classes.{Class, all_classes, class_at}
+use Rattle.cjc_clinit.specs.World.Order.{method_order}
+use Rattle.cjc_narrow.specs.LowerJvmSemantics.Linked.{Method}
+use Rattle.cjc_narrow.specs.LowerJvmSemantics.OnePackage.{method_at}
 use Rattle.cjc_clinit.specs.Image.{IsImage}
-use Rattle.cjc_narrow.specs.NCode.declared.narrow.NMethod.{NMethod}
+use Rattle.cjc_emit.specs.NCode.declared.narrow.NMethod.{NMethod}
 use Rattle.cjc_narrow.specs.Rows.Resolved.{argument_words}
 use Rattle.cjc_narrow.specs.Rows.Package.{code_of}
 use Rattle.cjc_narrow.specs.Rows.Selected.{near_fields}
-use Rattle.cjc_emit.specs.Layout.Legal.{IsLeast}
+use Rattle.cjc_emit.specs.LowerLayout.Legal.{IsLeast}
 use Rattle.cjc_components.specs.Package.{LaidMethod, Package, pool}
 use Rattle.cjc_components.specs.Descriptor.{method_in}
 

@@ -10,14 +10,9 @@ pub mod list {
     pub use cjc_list::List;
 }
 
-/// What crates above take of bytecode.
-pub mod bytecode {
-    pub use cjc_vtable::bytecode::MethodCode;
-}
-
 /// What crates above take of script.
 pub mod script {
-    pub use cjc_narrow::script::{Note, Report, Value};
+    pub use cjc_narrow::script::{Note, Report, Script, Value};
 }
 
 /// What crates above take of capread.
@@ -61,19 +56,9 @@ pub mod check_rules {
     pub use cjc_check_rules::consistent_where_unbroken;
 }
 
-/// What crates above take of types.
-pub mod types {
-    pub use cjc_narrow::types::{Method, TypeTable, TypeWalk};
-}
-
 /// What crates above take of ncode.
 pub mod ncode {
     pub use cjc_narrow::ncode::{NMethod, PoolKey};
-}
-
-/// What crates above take of cjc_narrow.
-pub mod narrow {
-    pub use cjc_narrow::{keys, select};
 }
 
 /// What crates above take of layout.

@@ -4,8 +4,8 @@
 ghost use Rattle.std.specs.Prelude.{◌≡◌, List, length, true};
 ghost use Rattle.cjc_components.specs.Paired.Pairs.{pair_breaks};
 ghost use Rattle.cjc_check_rules.specs.Complete.{Complete};
-ghost use Rattle.cjc_vtable.specs.World.declared.image.StaticImage.{StaticImage};
-ghost use Rattle.cjc_vtable.specs.World.Files.{Files};
+ghost use Rattle.cjc_clinit.specs.World.declared.image.StaticImage.{StaticImage};
+ghost use Rattle.cjc_clinit.specs.World.Files.{Files};
 ghost use Rattle.std.specs.Prelude.{◌≤◌};
 
 /// At most one place is told.

@@ -1,26 +1,26 @@
 -- What a conversion answers of a list and its files is one.
 use Rattle.std.proofs.Common.{◌≡◌, ℕ, sym, ap, subst, ◌∙◌, List, length}
-use Rattle.cjc_shape_proof.specs.Bytes.Breaks.{Break}
-use Rattle.cjc_shape_proof.specs.Bytes.Order.{Rank}
-use Rattle.cjc_shape_proof.specs.Bytes.Refused.{refused_at}
-use Rattle.cjc_shape_proof.specs.Bytes.declared.fault.Refusal.{Refusal}
-use Rattle.cjc_shape_proof.specs.CapWrite.Files.{files_of}
-use Rattle.cjc_shape_proof.specs.CapWrite.declared.files.CapFiles.{CapFiles}
-use Rattle.cjc_captree.specs.Components.Components.{components_of}
-use Rattle.cjc_captree.specs.Components.ExportFile.{export_of}
-use Rattle.cjc_captree.specs.Components.Package.{Package}
-use Rattle.cjc_shape_proof.specs.ExportFile.Written.{written}
+use Rattle.cjc_captree.specs.Bytes.Breaks.{Break}
+use Rattle.cjc_captree.specs.Bytes.Order.{Rank}
+use Rattle.cjc_captree.specs.Bytes.Refused.{refused_at}
+use Rattle.cjc_captree.specs.Bytes.declared.fault.Refusal.{Refusal}
+use Rattle.cjc_captree.specs.CapWrite.Files.{files_of}
+use Rattle.cjc_captree.specs.CapWrite.declared.files.CapFiles.{CapFiles}
+use Rattle.cjc_shape_proof.specs.Components.Components.{components_of}
+use Rattle.cjc_shape_proof.specs.Components.ExportFile.{export_of}
+use Rattle.cjc_shape_proof.specs.Components.Package.{Package}
+use Rattle.cjc_captree.specs.ExportFile.Written.{written}
 use Rattle.cjc_shape_proof.proofs.JudgeFirsts.{one_spelling}
 use Rattle.cjc_shape_proof.proofs.JudgeOneRefusal.{one_first_of, one_on_levels, one_refusal}
 use Rattle.cjc_shape_proof.proofs.JudgePlaces.{IsTold, class_files, place_at}
-use Rattle.cjc_shape_proof.specs.Judge.Rules.{Breach, OnLevels, files_spelt, on_first, on_second}
-use Rattle.cjc_shape_proof.specs.Judge.Spelt.{FileTree, SpellTrees}
-use Rattle.cjc_shape_proof.specs.List.Listed.{ListTree}
-use Rattle.cjc_shape_proof.specs.Shape.Prepared.{tested}
+use Rattle.cjc_shape_proof.specs.LowerJudge.Rules.{Breach, OnLevels, files_spelt, on_first, on_second}
+use Rattle.cjc_shape_proof.specs.LowerJudge.Spelt.{FileTree, SpellTrees}
+use Rattle.cjc_captree.specs.List.Listed.{ListTree}
+use Rattle.cjc_shape_proof.specs.LowerShape.Prepared.{tested}
 use Rattle.cjc_shape_proof.proofs.ShapeOne.{one_package}
 use Rattle.cjc_shape_proof.proofs.ShapeSecond.{package_is_draft}
-use Rattle.cjc_shape_proof.specs.Shape.Whole.Conversion.{BreaksWritten, IsDraft, IsRefused, of_form, of_size}
-use Rattle.cjc_captree.specs.World.Files.{Files}
+use Rattle.cjc_shape_proof.specs.LowerShape.Whole.Conversion.{BreaksWritten, IsDraft, IsRefused, of_form, of_size}
+use Rattle.cjc_shape_proof.specs.World.Files.{Files}
 use Rattle.cjc_convert.proofs.ConversionLaws.Stops.{none_written}
 use Rattle.cjc_convert.proofs.Told.{sizes_told, written_told}
 use Rattle.cjc_convert.specs.Conversion.{IsConverted}

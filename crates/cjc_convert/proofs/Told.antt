@@ -6,35 +6,35 @@ use Rattle.std.specs.Str.{bytes_eq}
 use Rattle.std.proofs.lemmas.Bool.{ltb-true}
 use Rattle.std.proofs.lemmas.List.{length-map}
 use Rattle.std.proofs.lemmas.Option.{slice_get-map, slice_get_cases, slice_get_within}
-use Rattle.cjc_shape_proof.specs.Bytes.Breaks.{Break, at, broken_at, class_spot, member_spot}
-use Rattle.cjc_shape_proof.specs.Bytes.Order.{file_of}
-use Rattle.cjc_shape_proof.specs.Bytes.Refused.{method_text}
+use Rattle.cjc_captree.specs.Bytes.Breaks.{Break, at, broken_at, class_spot, member_spot}
+use Rattle.cjc_captree.specs.Bytes.Order.{file_of}
+use Rattle.cjc_captree.specs.Bytes.Refused.{method_text}
 use Rattle.cjc_captree.proofs.ClassOrderDeclared.{order_declared}
-use Rattle.cjc_shape_proof.specs.ClassOrder.Classes.Numbers.{declared_at}
-use Rattle.cjc_shape_proof.specs.ClassFile.declared.tree.ClassTree.{ClassTree}
-use Rattle.cjc_shape_proof.specs.ClassFile.declared.tree.MethodTree.{MethodTree}
-use Rattle.cjc_captree.specs.Components.Descriptor.{as_added, method_in, methods_with_added, no_member}
-use Rattle.cjc_captree.specs.Components.Limits.{code_breaks, else_of, form_breaks, has_far_types, has_int_code}
-use Rattle.cjc_captree.specs.Components.Limits.{has_large_component, int_breaks}
-use Rattle.cjc_captree.specs.Components.Limits.{has_many_entries}
-use Rattle.cjc_captree.specs.Components.Limits.{has_many_words, in_class, is_too_long, layout_breaks, method_spot}
-use Rattle.cjc_captree.specs.Components.Limits.{of_methods}
-use Rattle.cjc_captree.specs.Components.Limits.{order_breaks, size_breaks, spot_of_list, word_breaks}
-use Rattle.cjc_captree.specs.Components.Package.{LaidMethod, Package, world}
+use Rattle.cjc_captree.specs.ClassOrder.Classes.Numbers.{declared_at}
+use Rattle.cjc_captree.specs.ClassFile.declared.tree.ClassTree.{ClassTree}
+use Rattle.cjc_captree.specs.ClassFile.declared.tree.MethodTree.{MethodTree}
+use Rattle.cjc_shape_proof.specs.Components.Descriptor.{as_added, method_in, methods_with_added, no_member}
+use Rattle.cjc_shape_proof.specs.Components.Limits.{code_breaks, else_of, form_breaks, has_far_types, has_int_code}
+use Rattle.cjc_shape_proof.specs.Components.Limits.{has_large_component, int_breaks}
+use Rattle.cjc_shape_proof.specs.Components.Limits.{has_many_entries}
+use Rattle.cjc_shape_proof.specs.Components.Limits.{has_many_words, in_class, is_too_long, layout_breaks, method_spot}
+use Rattle.cjc_shape_proof.specs.Components.Limits.{of_methods}
+use Rattle.cjc_shape_proof.specs.Components.Limits.{order_breaks, size_breaks, spot_of_list, word_breaks}
+use Rattle.cjc_shape_proof.specs.Components.Package.{LaidMethod, Package, world}
 use Rattle.cjc_shape_proof.proofs.JudgeEach.{Each, each_append, each_at, each_more, each_none}
 use Rattle.cjc_shape_proof.proofs.JudgePlaces.{IsFileOf, IsTold, class_files, file_is_of, told_at_class}
 use Rattle.cjc_shape_proof.proofs.JudgePlaces.{told_at_method, told_list}
-use Rattle.cjc_shape_proof.specs.Layout.Refusals.{least, overtaking}
+use Rattle.cjc_captree.specs.Layout.Refusals.{least, overtaking}
 use Rattle.cjc_shape_proof.proofs.VTableFiled.{Has, get-has}
 use Rattle.cjc_shape_proof.proofs.VTableNumbers.{at-tree}
-use Rattle.cjc_captree.specs.World.Added.{added}
-use Rattle.cjc_captree.specs.World.Classes.{Class, Member, all_classes, class_at, declared, field_of_class}
-use Rattle.cjc_captree.specs.World.Classes.{method_of_class}
-use Rattle.cjc_captree.specs.World.Files.{Files}
-use Rattle.cjc_captree.specs.World.Lookup.{member_at}
-use Rattle.cjc_captree.specs.World.Order.{in_order, method_order, methods_in_turn, methods_of_class, places}
-use Rattle.cjc_captree.specs.World.Order.{written}
-use Rattle.cjc_captree.specs.World.declared.found.Found.{Found}
+use Rattle.cjc_shape_proof.specs.World.Added.{added}
+use Rattle.cjc_shape_proof.specs.World.Classes.{Class, Member, all_classes, class_at, declared, field_of_class}
+use Rattle.cjc_shape_proof.specs.World.Classes.{method_of_class}
+use Rattle.cjc_shape_proof.specs.World.Files.{Files}
+use Rattle.cjc_shape_proof.specs.World.Lookup.{member_at}
+use Rattle.cjc_shape_proof.specs.World.Order.{in_order, method_order, methods_in_turn, methods_of_class, places}
+use Rattle.cjc_shape_proof.specs.World.Order.{written}
+use Rattle.cjc_shape_proof.specs.World.declared.found.Found.{Found}
 use Rattle.cjc_shape_proof.proofs.WrittenLaws.FittingLaws.Order.{has_cons, has_none}
 use Rattle.cjc_shape_proof.proofs.BytesGets.{in_front}
 use Rattle.cjc_shape_proof.proofs.VTableFiled.{has-either}

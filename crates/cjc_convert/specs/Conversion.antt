@@ -1,21 +1,21 @@
 -- What a conversion makes of a list and the files that it names.
 use Rattle.std.specs.Prelude.{◌≡◌, ℕ, List, []}
-use Rattle.cjc_shape_proof.specs.Bytes.Breaks.{Break}
-use Rattle.cjc_shape_proof.specs.Bytes.Format.{FileSpells}
-use Rattle.cjc_shape_proof.specs.CapWrite.Files.{files_of}
-use Rattle.cjc_shape_proof.specs.CapWrite.Writable.{IsSpelt}
-use Rattle.cjc_captree.specs.Components.Components.{components_of}
-use Rattle.cjc_captree.specs.Components.ExportFile.{export_of}
-use Rattle.cjc_captree.specs.Components.Limits.{limit_breaks}
-use Rattle.cjc_captree.specs.Components.Package.{Package}
+use Rattle.cjc_captree.specs.Bytes.Breaks.{Break}
+use Rattle.cjc_captree.specs.Bytes.Format.{FileSpells}
+use Rattle.cjc_captree.specs.CapWrite.Files.{files_of}
+use Rattle.cjc_captree.specs.CapWrite.Writable.{IsSpelt}
+use Rattle.cjc_shape_proof.specs.Components.Components.{components_of}
+use Rattle.cjc_shape_proof.specs.Components.ExportFile.{export_of}
+use Rattle.cjc_shape_proof.specs.Components.Limits.{limit_breaks}
+use Rattle.cjc_shape_proof.specs.Components.Package.{Package}
 use Rattle.cjc_convert.specs.declared.conversion.Converted.{Converted}
-use Rattle.cjc_shape_proof.specs.ExportFile.ExportFile.{export_file}
-use Rattle.cjc_shape_proof.specs.ExportFile.Written.{written}
-use Rattle.cjc_shape_proof.specs.Judge.Rules.{Breach}
-use Rattle.cjc_shape_proof.specs.Judge.declared.judged.Judged.{Judged}
-use Rattle.cjc_shape_proof.specs.List.Listed.{ListTree}
-use Rattle.cjc_shape_proof.specs.Shape.Prepared.{IsSound, tested}
-use Rattle.cjc_shape_proof.specs.Shape.Whole.Conversion.{IsPackageOf}
+use Rattle.cjc_captree.specs.ExportFile.ExportFile.{export_file}
+use Rattle.cjc_captree.specs.ExportFile.Written.{written}
+use Rattle.cjc_shape_proof.specs.LowerJudge.Rules.{Breach}
+use Rattle.cjc_shape_proof.specs.LowerJudge.declared.judged.Judged.{Judged}
+use Rattle.cjc_captree.specs.List.Listed.{ListTree}
+use Rattle.cjc_shape_proof.specs.LowerShape.Prepared.{IsSound, tested}
+use Rattle.cjc_shape_proof.specs.LowerShape.Whole.Conversion.{IsPackageOf}
 
 -- The files break no rule, nor does what is written for them; and these are the component files and the export file of
 -- their

@@ -2,16 +2,16 @@
 //! then the rest. Called by `conversion`.
 
 ghost use Rattle.std.specs.Prelude.{◌≡◌, [], length, map, IfErr, IfOk, OnOk};
-ghost use Rattle.cjc_shape_proof.specs.Bytes.Breaks.{IsFirstRefusal};
-ghost use Rattle.cjc_captree.specs.Classes.Descriptor.Fits.{AreFit};
-ghost use Rattle.cjc_captree.specs.Components.Components.{components_of, method, reference_location};
-ghost use Rattle.cjc_captree.specs.Components.Limits.{size_breaks};
-ghost use Rattle.cjc_captree.specs.Components.Methods.{placed_methods};
-ghost use Rattle.cjc_captree.specs.Components.Package as packages;
-ghost use Rattle.cjc_shape_proof.specs.Judge.Spelt.{IsRead};
-ghost use Rattle.cjc_captree.specs.Pool.Pool.{IsPool};
-ghost use Rattle.cjc_shape_proof.specs.Shape.Prepared.{BreaksNothing};
-ghost use Rattle.cjc_shape_proof.specs.Shape.Whole.Working.Shaped.{IsShaped, package_of};
+ghost use Rattle.cjc_captree.specs.Bytes.Breaks.{IsFirstRefusal};
+ghost use Rattle.cjc_captree.specs.LowerClasses.Descriptor.Fits.{AreFit};
+ghost use Rattle.cjc_shape_proof.specs.Components.Components.{components_of, method, reference_location};
+ghost use Rattle.cjc_shape_proof.specs.Components.Limits.{size_breaks};
+ghost use Rattle.cjc_shape_proof.specs.Components.Methods.{placed_methods};
+ghost use Rattle.cjc_shape_proof.specs.Components.Package as packages;
+ghost use Rattle.cjc_shape_proof.specs.LowerJudge.Spelt.{IsRead};
+ghost use Rattle.cjc_shape_proof.specs.Pool.Pool.{IsPool};
+ghost use Rattle.cjc_shape_proof.specs.LowerShape.Prepared.{BreaksNothing};
+ghost use Rattle.cjc_shape_proof.specs.LowerShape.Whole.Working.Shaped.{IsShaped, package_of};
 
 use crate::sizes::test_sizes;
 use cjc_captree::capread::CapTree;

@@ -2,11 +2,11 @@
 //! the package's files stands until the end.
 
 ghost use Rattle.std.specs.Prelude.{◌≡◌, ◌⊎◌, ◌≤◌, ◌^◌, length, All, IfOk, IfErr};
-ghost use Rattle.cjc_shape_proof.specs.Bytes.declared.fault.Fault.TheVariants as faults;
-ghost use Rattle.cjc_shape_proof.specs.Bytes.declared.fault.Refusal.{Refusal as Broken};
+ghost use Rattle.cjc_captree.specs.Bytes.declared.fault.Fault.TheVariants as faults;
+ghost use Rattle.cjc_captree.specs.Bytes.declared.fault.Refusal.{Refusal as Broken};
 ghost use Rattle.cjc_convert.specs.Conversion.{IsConverted};
-ghost use Rattle.cjc_shape_proof.specs.Judge.Spelt.{IsRead};
-ghost use Rattle.cjc_shape_proof.specs.Shape.Whole.Conversion.{IsRefused};
+ghost use Rattle.cjc_shape_proof.specs.LowerJudge.Spelt.{IsRead};
+ghost use Rattle.cjc_shape_proof.specs.LowerShape.Whole.Conversion.{IsRefused};
 
 use crate::building::build;
 use crate::files::are_bytes;

@@ -1,11 +1,11 @@
 //! What holds of the answers for all packages. Whoever tells what a run answers cites it.
 
 ghost use Rattle.std.specs.Prelude.{◌≡◌, ℕ, List as Items};
-ghost use Rattle.cjc_shape_proof.specs.Bytes.declared.fault.Refusal.{Refusal as Broken};
+ghost use Rattle.cjc_captree.specs.Bytes.declared.fault.Refusal.{Refusal as Broken};
 ghost use Rattle.cjc_convert.specs.Conversion.{IsConverted};
 ghost use Rattle.cjc_convert.specs.declared.conversion.Converted.{Converted as Written};
-ghost use Rattle.cjc_shape_proof.specs.List.Listed.{ListTree};
-ghost use Rattle.cjc_shape_proof.specs.Shape.Whole.Conversion.{IsRefused};
+ghost use Rattle.cjc_captree.specs.List.Listed.{ListTree};
+ghost use Rattle.cjc_shape_proof.specs.LowerShape.Whole.Conversion.{IsRefused};
 
 /// A list with its files has one refusal at most, or what is converted of it is one, and never both.
 pub fn one_answer()

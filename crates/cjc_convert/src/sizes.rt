@@ -1,11 +1,11 @@
 //! Rules 411 and 416 on components that are made, before anything is written. Called by `building`.
 
 ghost use Rattle.std.specs.Prelude.{◌≡◌, [], sum_by, IfErr, OnOk};
-ghost use Rattle.cjc_shape_proof.specs.Bytes.Breaks.{IsFirstRefusal};
-ghost use Rattle.cjc_captree.specs.Components.Components.{components_of};
-ghost use Rattle.cjc_captree.specs.Components.Limits.{size_breaks};
-ghost use Rattle.cjc_captree.specs.Components.Methods.{handler_count};
-ghost use Rattle.cjc_captree.specs.Components.Package.{Package, codes};
+ghost use Rattle.cjc_captree.specs.Bytes.Breaks.{IsFirstRefusal};
+ghost use Rattle.cjc_shape_proof.specs.Components.Components.{components_of};
+ghost use Rattle.cjc_shape_proof.specs.Components.Limits.{size_breaks};
+ghost use Rattle.cjc_shape_proof.specs.Components.Methods.{handler_count};
+ghost use Rattle.cjc_shape_proof.specs.Components.Package.{Package, codes};
 
 use cjc_captree::capread::CapTree;
 use cjc_captree::limits::{size_break, widest_method};

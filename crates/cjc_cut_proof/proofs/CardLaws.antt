@@ -7,15 +7,15 @@ use Rattle.std.specs.Prelude.{sum_by}
 use Rattle.std.proofs.lemmas.List.{drop-drop}
 use Rattle.std.proofs.lemmas.List.Concat.{flat_map-cons}
 use Rattle.std.proofs.lemmas.List.Sums.{sum_by-cons}
-use Rattle.cjc_check_rules.specs.LowerCapRead.declared.tree.ClassEntry.{ClassEntry}
-use Rattle.cjc_check_rules.specs.LowerCapRead.declared.tree.ClassRef.{ClassRef}
-use Rattle.cjc_check_rules.specs.LowerCapRead.declared.tree.ClassRef.TheVariants.{Inside, Outside}
-use Rattle.cjc_check_rules.specs.LowerCapRead.declared.tree.ClassDescriptor.{ClassDescriptor}
-use Rattle.cjc_check_rules.specs.LowerCapRead.declared.tree.ImplementedInterface.{ImplementedInterface}
-use Rattle.cjc_check_rules.specs.LowerCapRead.declared.tree.InterfaceEntry.{InterfaceEntry}
-use Rattle.cjc_check_rules.specs.LowerCapRead.declared.tree.MethodDescriptor.{MethodDescriptor}
-use Rattle.cjc_check_rules.specs.LowerCapRead.Decode.{Instruction, decode, size}
-use Rattle.cjc_check_rules.specs.LowerCapRead.MethodHeader.{MethodHeader, method_header}
+use Rattle.cjc_check_rules.specs.CapRead.declared.tree.ClassEntry.{ClassEntry}
+use Rattle.cjc_check_rules.specs.CapRead.declared.tree.ClassRef.{ClassRef}
+use Rattle.cjc_check_rules.specs.CapRead.declared.tree.ClassRef.TheVariants.{Inside, Outside}
+use Rattle.cjc_check_rules.specs.CapRead.declared.tree.ClassDescriptor.{ClassDescriptor}
+use Rattle.cjc_check_rules.specs.CapRead.declared.tree.ImplementedInterface.{ImplementedInterface}
+use Rattle.cjc_check_rules.specs.CapRead.declared.tree.InterfaceEntry.{InterfaceEntry}
+use Rattle.cjc_check_rules.specs.CapRead.declared.tree.MethodDescriptor.{MethodDescriptor}
+use Rattle.cjc_check_rules.specs.CapRead.Decode.{Instruction, decode, size}
+use Rattle.cjc_check_rules.specs.CapRead.MethodHeader.{MethodHeader, method_header}
 use Rattle.cjc_check_rules.specs.Spots.{Placed, begins, placed}
 use Rattle.cjc_check_rules.specs.Classes.{first_class, is_own_class}
 use Rattle.cjc_check_rules.specs.Codes.{Code as Cut, codes, cut, instructions, whole_spots}

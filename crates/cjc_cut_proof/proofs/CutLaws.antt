@@ -4,10 +4,10 @@ use Rattle.std.proofs.Common.{false}
 use Rattle.std.proofs.Common.{List, [], ◌∷◌, take, drop, slice_get, Option, Some, None, Result, Ok, Err}
 use Rattle.std.specs.Prelude.{if◌then◌else◌}
 use Rattle.std.proofs.lemmas.List.{take-append-drop, drop-drop, length-take}
-use Rattle.cjc_check_rules.specs.LowerCapRead.declared.tree.MethodDescriptor.{MethodDescriptor}
-use Rattle.cjc_check_rules.specs.LowerCapRead.Decode.{Instruction, decode, size}
-use Rattle.cjc_check_rules.specs.LowerCapRead.MethodHeader.{MethodHeader, extended_header, is_extended, method_header}
-use Rattle.cjc_check_rules.specs.LowerCapRead.MethodHeader.{short_header}
+use Rattle.cjc_check_rules.specs.CapRead.declared.tree.MethodDescriptor.{MethodDescriptor}
+use Rattle.cjc_check_rules.specs.CapRead.Decode.{Instruction, decode, size}
+use Rattle.cjc_check_rules.specs.CapRead.MethodHeader.{MethodHeader, extended_header, is_extended, method_header}
+use Rattle.cjc_check_rules.specs.CapRead.MethodHeader.{short_header}
 use Rattle.cjc_check_rules.specs.Spots.{Placed}
 use Rattle.cjc_check_rules.specs.Codes.{Code, codes_from, instructions, onto, with_code, with_header, with_instruction}
 use Rattle.cjc_card_semantics.specs.Machine.Methods.{method_among}

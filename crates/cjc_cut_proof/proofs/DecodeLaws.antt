@@ -2,16 +2,16 @@
 use Rattle.std.proofs.Common.{◌≡◌, ℕ, ◌+◌, refl, ap, subst, ◌∙◌, arith, Bool, true, false, List, [], ◌∷◌, ◌++◌}
 use Rattle.std.proofs.Common.{length, Option, Some, None}
 use Rattle.std.specs.Prelude.{if◌then◌else◌}
-use Rattle.cjc_check_rules.specs.LowerCapRead.Opcodes.{Operand, Byte, Signed1, Signed2, Signed4, Index1, Index2, Form}
-use Rattle.cjc_check_rules.specs.LowerCapRead.Opcodes.{width}
-use Rattle.cjc_check_rules.specs.LowerCapRead.Opcodes.{widths}
-use Rattle.cjc_check_rules.specs.LowerCapRead.Opcodes.{form}
-use Rattle.cjc_check_rules.specs.LowerCapRead.Decode.{Instruction, First, Front, operand, operands_of, put_first}
-use Rattle.cjc_check_rules.specs.LowerCapRead.Decode.{first_and}
-use Rattle.cjc_check_rules.specs.LowerCapRead.Decode.{before_table, in_table, is_whole, with_table, with_operands}
-use Rattle.cjc_check_rules.specs.LowerCapRead.Decode.{decode_as}
-use Rattle.cjc_check_rules.specs.LowerCapRead.Decode.{decode}
-use Rattle.cjc_check_rules.specs.LowerCapRead.Decode.{size, size_as, size_by}
+use Rattle.cjc_check_rules.specs.CapRead.Opcodes.{Operand, Byte, Signed1, Signed2, Signed4, Index1, Index2, Form}
+use Rattle.cjc_check_rules.specs.CapRead.Opcodes.{width}
+use Rattle.cjc_check_rules.specs.CapRead.Opcodes.{widths}
+use Rattle.cjc_check_rules.specs.CapRead.Opcodes.{form}
+use Rattle.cjc_check_rules.specs.CapRead.Decode.{Instruction, First, Front, operand, operands_of, put_first}
+use Rattle.cjc_check_rules.specs.CapRead.Decode.{first_and}
+use Rattle.cjc_check_rules.specs.CapRead.Decode.{before_table, in_table, is_whole, with_table, with_operands}
+use Rattle.cjc_check_rules.specs.CapRead.Decode.{decode_as}
+use Rattle.cjc_check_rules.specs.CapRead.Decode.{decode}
+use Rattle.cjc_check_rules.specs.CapRead.Decode.{size, size_as, size_by}
 use Rattle.cjc_check_rules.proofs.BytesPlain.{same_some}
 
 -- what is read of more bytes, with so many of them read

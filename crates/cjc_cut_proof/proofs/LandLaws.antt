@@ -7,8 +7,8 @@ use Rattle.std.specs.List.{find, list_all, list_any}
 use Rattle.std.specs.Ordering.{int_eq}
 use Rattle.std.proofs.lemmas.Bool.Decides.{Decides-int_eq}
 use Rattle.std.proofs.lemmas.Int.{ints}
-use Rattle.cjc_check_rules.specs.LowerCapRead.declared.tree.Handler.{Handler}
-use Rattle.cjc_check_rules.specs.LowerCapRead.Decode.{Instruction}
+use Rattle.cjc_check_rules.specs.CapRead.declared.tree.Handler.{Handler}
+use Rattle.cjc_check_rules.specs.CapRead.Decode.{Instruction}
 use Rattle.cjc_check_rules.specs.declared.spot.ComponentPlace.{ComponentPlace}
 use Rattle.cjc_check_rules.specs.Spots.{Placed, along, begins, in_info, unless}
 use Rattle.cjc_check_rules.specs.Complete.{Complete}

@@ -1,10 +1,10 @@
 -- Methods that are cut into headers and whole instructions: where each stands, and where its instructions and handlers
 -- lead (Java Card Virtual Machine Specification 2.2.2, section 6.9).
 use Rattle.std.specs.Prelude.{◌≡◌, ◌⊎◌, ℕ, suc, ◌+◌, ◌-◌, ◌<◌, ◌≤◌, true, List, drop, slice_get, Some, None, Ok}
-use Rattle.cjc_check_rules.specs.LowerCapRead.declared.tree.Handler.{Handler}
-use Rattle.cjc_check_rules.specs.LowerCapRead.declared.tree.MethodDescriptor.{MethodDescriptor}
-use Rattle.cjc_check_rules.specs.LowerCapRead.Decode.{Instruction, decode, size}
-use Rattle.cjc_check_rules.specs.LowerCapRead.MethodHeader.{MethodHeader, method_header}
+use Rattle.cjc_check_rules.specs.CapRead.declared.tree.Handler.{Handler}
+use Rattle.cjc_check_rules.specs.CapRead.declared.tree.MethodDescriptor.{MethodDescriptor}
+use Rattle.cjc_check_rules.specs.CapRead.Decode.{Instruction, decode, size}
+use Rattle.cjc_check_rules.specs.CapRead.MethodHeader.{MethodHeader, method_header}
 use Rattle.cjc_check_rules.specs.Spots.{Placed}
 use Rattle.cjc_check_rules.specs.Codes.{Code, instructions, methods_begin}
 use Rattle.cjc_check_rules.specs.Complete.{Complete}

@@ -1,8 +1,8 @@
 //! Methods that are cut into headers and whole instructions, as the card runs them. It has laws alone, for whoever
 //! proves that components which break no rule are never stuck.
 ghost use Rattle.std.specs.Prelude.{◌≡◌, ℕ, suc, ◌+◌, List, [], ◌++◌, length, slice_get, Some};
-ghost use Rattle.cjc_check_rules.specs.LowerCapRead.Decode.{Instruction, decode, size};
-ghost use Rattle.cjc_check_rules.specs.LowerCapRead.declared.tree.MethodDescriptor.{MethodDescriptor};
+ghost use Rattle.cjc_check_rules.specs.CapRead.Decode.{Instruction, decode, size};
+ghost use Rattle.cjc_check_rules.specs.CapRead.declared.tree.MethodDescriptor.{MethodDescriptor};
 ghost use Rattle.cjc_check_rules.specs.Codes.{Code as Cut, codes, whole_spots};
 ghost use Rattle.cjc_check_rules.specs.Complete.{Complete};
 ghost use Rattle.cjc_check_rules.specs.Members.{class_methods};

@@ -2,8 +2,8 @@
 //! stuck.
 ghost use Rattle.std.specs.Prelude.{◌≡◌, ◌<◌, ◌≤◌, ◌+◌, ℕ, true, false, List, [], map, slice_get, Some, Contains, ℤ};
 ghost use Rattle.std.specs.List.{list_all};
-ghost use Rattle.cjc_check_rules.specs.LowerCapRead.Decode.{Instruction};
-ghost use Rattle.cjc_check_rules.specs.LowerCapRead.declared.tree.Handler.{Handler};
+ghost use Rattle.cjc_check_rules.specs.CapRead.Decode.{Instruction};
+ghost use Rattle.cjc_check_rules.specs.CapRead.declared.tree.Handler.{Handler};
 ghost use Rattle.cjc_check_rules.specs.Codes.{Code, codes};
 ghost use Rattle.cjc_check_rules.specs.Complete.{Complete};
 ghost use Rattle.cjc_check_rules.specs.Handlers.{handler_spots};

@@ -1,7 +1,7 @@
 -- Decoding what is emitted.
 use Rattle.std.proofs.Common.{◌≡◌, ℕ, ◌+◌, ap, ◌∙◌, arith, Bool, List, ◌++◌, length, drop, append_assoc}
 use Rattle.std.specs.Prelude.{Some, slice_get}
-use Rattle.cjc_ncode.specs.CapRead.Decode.{decode}
+use Rattle.cjc_layout.specs.CapRead.Decode.{decode}
 use Rattle.cjc_ncode.proofs.CapReadDecoding.{decode_emitted}
 use Rattle.cjc_ncode.specs.declared.narrow.NInsn.{NInsn}
 use Rattle.cjc_ncode.specs.declared.narrow.NMethod.{NMethod}

@@ -4,8 +4,8 @@ use Rattle.std.proofs.Common.{true, false, List, [], ◌∷◌, ◌++◌, length
 use Rattle.std.specs.Prelude.{nat_le, nat_lt, if◌then◌else◌, ◌+ℤ◌, ◌-ℤ◌, ◌&&◌}
 use Rattle.std.proofs.lemmas.Bool.{cases_lt}
 use Rattle.std.proofs.lemmas.Bool.Decides.{nat_tests}
-use Rattle.cjc_ncode.specs.CardSemantics.Bytecode.Meanings.{Meaning, Ranged, meaning}
-use Rattle.cjc_ncode.specs.CapRead.Decode.{Instruction}
+use Rattle.cjc_layout.specs.CardSemantics.Bytecode.Meanings.{Meaning, Ranged, meaning}
+use Rattle.cjc_layout.specs.CapRead.Decode.{Instruction}
 use Rattle.cjc_ncode.proofs.CapReadHeaders.{short_read}
 use Rattle.cjc_ncode.specs.declared.narrow.NCase.{NCase}
 use Rattle.cjc_ncode.specs.declared.narrow.NInsn.{NInsn}

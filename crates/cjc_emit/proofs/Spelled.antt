@@ -7,23 +7,23 @@ use Rattle.std.specs.Prelude.{if◌then◌else◌, ◌+ℤ◌, ◌-ℤ◌}
 use Rattle.std.proofs.lemmas.Bool.{cases_lt}
 use Rattle.std.proofs.lemmas.Bool.Decides.{nat_tests}
 use Rattle.std.proofs.lemmas.Int.{ints}
-use Rattle.cjc_ncode.specs.Bytes.declared.fault.MemberId.{MemberId}
-use Rattle.cjc_ncode.specs.CapRead.Opcodes.{Operand, Byte, Signed1, Signed2, Signed4, Index1, Index2, Form, Fields}
-use Rattle.cjc_ncode.specs.CapRead.Opcodes.{Table}
-use Rattle.cjc_ncode.specs.CapRead.Opcodes.{Lookup, form, forms, info, op_info, width}
-use Rattle.cjc_ncode.specs.CapRead.Decode.{Instruction, operand_bytes, operands_bytes, two_bytes, four_bytes}
-use Rattle.cjc_ncode.specs.CapRead.Decode.{before_table}
-use Rattle.cjc_ncode.specs.CapRead.Decode.{up_to, pairs, emitted, below, IsWithin, positive, negative, Fits, AllFit}
-use Rattle.cjc_ncode.specs.CapRead.Decode.{none}
-use Rattle.cjc_ncode.specs.CapRead.Decode.{more, IsWritable}
-use Rattle.cjc_ncode.specs.CardSemantics.Bytecode.Meanings.{Meaning, Branches, Ranged, Paired, meaning}
+use Rattle.cjc_layout.specs.Bytes.declared.fault.MemberId.{MemberId}
+use Rattle.cjc_layout.specs.CapRead.Opcodes.{Operand, Byte, Signed1, Signed2, Signed4, Index1, Index2, Form, Fields}
+use Rattle.cjc_layout.specs.CapRead.Opcodes.{Table}
+use Rattle.cjc_layout.specs.CapRead.Opcodes.{Lookup, form, forms, info, op_info, width}
+use Rattle.cjc_layout.specs.CapRead.Decode.{Instruction, operand_bytes, operands_bytes, two_bytes, four_bytes}
+use Rattle.cjc_layout.specs.CapRead.Decode.{before_table}
+use Rattle.cjc_layout.specs.CapRead.Decode.{up_to, pairs, emitted, below, IsWithin, positive, negative, Fits, AllFit}
+use Rattle.cjc_layout.specs.CapRead.Decode.{none}
+use Rattle.cjc_layout.specs.CapRead.Decode.{more, IsWritable}
+use Rattle.cjc_layout.specs.CardSemantics.Bytecode.Meanings.{Meaning, Branches, Ranged, Paired, meaning}
 use Rattle.cjc_ncode.specs.declared.narrow.NCase.{NCase}
 use Rattle.cjc_ncode.specs.declared.narrow.NInsn.{NInsn}
 use Rattle.cjc_ncode.specs.declared.narrow.NInsn.TheVariants as insns
 use Rattle.cjc_ncode.specs.declared.narrow.PoolKey.{PoolKey}
 use Rattle.cjc_ncode.specs.declared.narrow.PoolKey.TheVariants as keys
 use Rattle.cjc_ncode.specs.Lowering.Naming.{Naming}
-use Rattle.cjc_ncode.specs.CapRead.Card.{invokeinterface, newarray}
+use Rattle.cjc_layout.specs.CapRead.Card.{invokeinterface, newarray}
 use Rattle.cjc_ncode.specs.Lowering.Laid.{distance, laid, matches, offsets, switch_as, untabled, wide_jump}
 use Rattle.cjc_ncode.specs.Lowering.Placed.{bytes_by, bytes_of, IsSpellable}
 use Rattle.cjc_layout.specs.Forms.{HasForm, bare, push, local, increase, words, jump, range, lookup, named}

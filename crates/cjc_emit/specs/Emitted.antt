@@ -2,9 +2,9 @@
 -- Machine Specification 2.2.2, sections 6.9.2 and 6.12).
 use Rattle.std.specs.Prelude.{◌≡◌, ℕ, ◌+◌, List, [], ◌∷◌, ◌++◌, length, position, slice_get, Option, Some, None, Bool}
 use Rattle.std.specs.Prelude.{nat_lt, ◌&&◌, ◌==◌, if◌then◌else◌}
-use Rattle.cjc_ncode.specs.Bytes.declared.fault.MemberId.{MemberId}
-use Rattle.cjc_ncode.specs.CapRead.declared.opcode.OpInfo.{OpInfo}
-use Rattle.cjc_ncode.specs.CapRead.Opcodes.{op_info}
+use Rattle.cjc_layout.specs.Bytes.declared.fault.MemberId.{MemberId}
+use Rattle.cjc_layout.specs.CapRead.declared.opcode.OpInfo.{OpInfo}
+use Rattle.cjc_layout.specs.CapRead.Opcodes.{op_info}
 use Rattle.cjc_ncode.specs.declared.narrow.NInsn.{NInsn}
 use Rattle.cjc_ncode.specs.declared.narrow.NInsn.TheVariants as insns
 use Rattle.cjc_ncode.specs.declared.narrow.NMethod.{NMethod}
@@ -12,7 +12,7 @@ use Rattle.cjc_ncode.specs.declared.narrow.PoolKey.{PoolKey}
 use Rattle.cjc_ncode.specs.declared.narrow.PoolKey.TheVariants as keys
 use Rattle.cjc_ncode.specs.PoolOrder.{same_key}
 use Rattle.cjc_ncode.specs.Lowering.Naming.{Naming}
-use Rattle.cjc_ncode.specs.CapRead.Card.{invokeinterface}
+use Rattle.cjc_layout.specs.CapRead.Card.{invokeinterface}
 use Rattle.cjc_ncode.specs.Lowering.Laid.{laid}
 use Rattle.cjc_ncode.specs.Lowering.Placed.{IsSpellable, Placed, extended_header, insn_size, method_bytes, offset_of}
 use Rattle.cjc_ncode.specs.Lowering.Placed.{short_header}

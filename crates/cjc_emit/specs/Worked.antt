@@ -1,7 +1,7 @@
 -- A method made by hand with each kind of index, and its bytes.
 use Rattle.std.specs.Prelude.{ℕ, List, [], ◌∷◌, Some, None, Bool, false, codes}
-use Rattle.cjc_ncode.specs.Bytes.declared.fault.MemberId.{MemberId}
-use Rattle.cjc_ncode.specs.CardSemantics.Machine.Worked.{id}
+use Rattle.cjc_layout.specs.Bytes.declared.fault.MemberId.{MemberId}
+use Rattle.cjc_layout.specs.CardSemantics.Machine.Worked.{id}
 use Rattle.cjc_ncode.specs.declared.narrow.NInsn.{NInsn}
 use Rattle.cjc_ncode.specs.declared.narrow.NInsn.TheVariants as insns
 use Rattle.cjc_ncode.specs.declared.narrow.NMethod.{NMethod}

@@ -2,10 +2,10 @@
 use Rattle.std.specs.Prelude.{ℕ, ◌+◌, ◌-◌, ◌*◌, ◌/◌, ◌%◌, List, [], ◌∷◌, ◌++◌, length, position, slice_index, Option}
 use Rattle.std.specs.Prelude.{Some, None, Bool, nat_lt, ◌==◌, if◌then◌else◌, ℤ}
 use Rattle.std.specs.Int.{w32, cast_unsigned}
-use Rattle.cjc_ncode.specs.Bytes.declared.fault.MemberId.{MemberId}
-use Rattle.cjc_ncode.specs.CapRead.declared.opcode.OpInfo.{OpInfo}
-use Rattle.cjc_ncode.specs.CapRead.Opcodes.{op_info}
-use Rattle.cjc_ncode.specs.CapRead.Card as card
+use Rattle.cjc_layout.specs.Bytes.declared.fault.MemberId.{MemberId}
+use Rattle.cjc_layout.specs.CapRead.declared.opcode.OpInfo.{OpInfo}
+use Rattle.cjc_layout.specs.CapRead.Opcodes.{op_info}
+use Rattle.cjc_layout.specs.CapRead.Card as card
 use Rattle.cjc_ncode.specs.declared.narrow.NCase.{NCase}
 use Rattle.cjc_ncode.specs.declared.narrow.NInsn.{NInsn}
 use Rattle.cjc_ncode.specs.declared.narrow.NInsn.TheVariants as insns

@@ -12,7 +12,7 @@ pub mod layout {
 pub mod emit_laws;
 
 ghost use Rattle.std.specs.Prelude.{◌≡◌, ◌∷◌, [], ◌++◌, ℕ, Bool, false, List, Some, drop, slice_get};
-ghost use Rattle.cjc_ncode.specs.CapRead.Decode.{decode};
+ghost use Rattle.cjc_layout.specs.CapRead.Decode.{decode};
 ghost use Rattle.cjc_ncode.specs.declared.narrow.NInsn.{NInsn as Insn};
 ghost use Rattle.cjc_ncode.specs.declared.narrow.NMethod.{NMethod as Method};
 ghost use Rattle.cjc_ncode.specs.Lowering.Naming.{Naming};

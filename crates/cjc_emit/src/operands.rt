@@ -2,7 +2,7 @@
 //! instructions. It knows no pool and no label.
 
 ghost use Rattle.std.specs.Prelude.{◌≡◌, ◌++◌, OnOk};
-ghost use Rattle.cjc_ncode.specs.CapRead.Opcodes.{op_info};
+ghost use Rattle.cjc_layout.specs.CapRead.Opcodes.{op_info};
 ghost use Rattle.cjc_emit.specs.Working.{jump_opcode, length_by, with_one, with_two};
 
 use crate::numbers::put_low;

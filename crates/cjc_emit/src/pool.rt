@@ -1,7 +1,7 @@
 //! What emitting asks of a constant pool. Whoever has a pool implements it.
 
 ghost use Rattle.std.specs.Prelude.{◌≡◌, ℕ, List, Option, position};
-ghost use Rattle.cjc_ncode.specs.Bytes.declared.fault.MemberId.{MemberId as Member};
+ghost use Rattle.cjc_layout.specs.Bytes.declared.fault.MemberId.{MemberId as Member};
 ghost use Rattle.cjc_ncode.specs.declared.narrow.PoolKey.{PoolKey as Key};
 ghost use Rattle.cjc_ncode.specs.declared.narrow.PoolKey.TheVariants as keys;
 ghost use Rattle.cjc_ncode.specs.PoolOrder.{same_key};

@@ -1,7 +1,7 @@
 -- Rows of the table of intervals, worked out at chosen ends: every landmark, both signs, divisors with 0 among them,
 -- distances outside 0 to 31. A row has the operands and the result.
 use Rattle.std.specs.Prelude.{ℕ, ℤ, pos, neg_ℤ, List, [], ◌∷◌, map}
-use Rattle.cjc_code.specs.LowerRange.Span.{Span, span, full}
+use Rattle.cjc_code.specs.Range.Span.{Span, span, full}
 
 -- from one number to another
 abbrev pub to : ℤ → ℤ → Span

@@ -1,10 +1,10 @@
 //! The table of intervals at chosen ends, worked out outside: it shows on rows that the definitions of the operations
 //! mean what they are to. Nothing here runs.
 ghost use Rattle.std.specs.Prelude.{◌≡◌};
-ghost use Rattle.cjc_code.specs.LowerRange.Rows.{add_row, sub_row, mul_row, div_row, rem_row, join_row, neg_row};
-ghost use Rattle.cjc_code.specs.LowerRange.Rows.{to_byte_row};
-ghost use Rattle.cjc_code.specs.LowerRange.Rows.{to_short_row, shl_row, shr_row, ushr_row, and_row, or_row};
-ghost use Rattle.cjc_code.specs.LowerRange.Landmarks.{round_row};
+ghost use Rattle.cjc_code.specs.Range.Rows.{add_row, sub_row, mul_row, div_row, rem_row, join_row, neg_row};
+ghost use Rattle.cjc_code.specs.Range.Rows.{to_byte_row};
+ghost use Rattle.cjc_code.specs.Range.Rows.{to_short_row, shl_row, shr_row, ushr_row, and_row, or_row};
+ghost use Rattle.cjc_code.specs.Range.Landmarks.{round_row};
 ghost use Rattle.cjc_examples.specs.Intervals as rows;
 ghost use Rattle.cjc_examples.specs.Intervals.{given_of_one, given_of_two, wanted_of_one, wanted_of_two};
 

@@ -1,13 +1,13 @@
 //! Packages made by hand as class files and as components, and their runs: by name, by token and by label. Nothing here
 //! runs in the product; it shows on examples that the definitions of the three machines say the same.
 ghost use Rattle.std.specs.Prelude.{◌≡◌, codes, pos, negsuc, replicate, [], ◌∷◌, Some, None};
-ghost use Rattle.cjc_components.specs.Script.declared.value.Value.TheVariants.{Num, Obj};
-ghost use Rattle.cjc_components.specs.Script.declared.script.Act.TheVariants as acts;
-ghost use Rattle.cjc_components.specs.Script.declared.script.Reply.TheVariants.{Give};
-ghost use Rattle.cjc_components.specs.Script.declared.report.Note.TheVariants.{Event, Result, Thrown};
-ghost use Rattle.cjc_components.specs.Script.declared.report.Outcome.TheVariants.{Done, Running, Waiting, Unfit};
-ghost use Rattle.cjc_components.specs.Script.declared.report.Thing.TheVariants as things;
-ghost use Rattle.cjc_components.specs.JvmSemantics.Worked.{no_image};
+ghost use Rattle.cjc_card_semantics.specs.Script.declared.value.Value.TheVariants.{Num, Obj};
+ghost use Rattle.cjc_card_semantics.specs.Script.declared.script.Act.TheVariants as acts;
+ghost use Rattle.cjc_card_semantics.specs.Script.declared.script.Reply.TheVariants.{Give};
+ghost use Rattle.cjc_card_semantics.specs.Script.declared.report.Note.TheVariants.{Event, Result, Thrown};
+ghost use Rattle.cjc_card_semantics.specs.Script.declared.report.Outcome.TheVariants.{Done, Running, Waiting, Unfit};
+ghost use Rattle.cjc_card_semantics.specs.Script.declared.report.Thing.TheVariants as things;
+ghost use Rattle.cjc_components.specs.LowerJvmSemantics.Worked.{no_image};
 ghost use Rattle.cjc_card_semantics.specs.Machine.Worked.{id, call, send, script, bare, ends};
 ghost use Rattle.cjc_card_semantics.specs.Machine.ByToken.{run};
 ghost use Rattle.cjc_examples.specs.Narrow.Both.{after, answer, reports};
@@ -18,7 +18,7 @@ ghost use Rattle.cjc_examples.specs.Narrow.Sharing as Sharing;
 ghost use Rattle.cjc_examples.specs.Narrow.Keeping as Keeping;
 ghost use Rattle.cjc_examples.specs.Narrow.Keeping.{image, cells, kept};
 ghost use Rattle.cjc_examples.specs.Narrow.Laid.{named_for, placed};
-ghost use Rattle.cjc_components.specs.NCode.Lowering.Package.{all_bytes, all_handlers};
+ghost use Rattle.cjc_components.specs.LowerNCode.Lowering.Package.{all_bytes, all_handlers};
 
 /// Calculations, array elements, switches and handlers on all three machines: each row has the report by name,
 /// by token and by label. A sum that wraps, an index outside on either side, the least short divided by -1,

@@ -14,4 +14,4 @@ pub mod Lookup
 pub mod Tokens
 pub mod Supers
 -- Definitions of lower crates, for those above.
-pub mod LowerBytes
+pub mod Bytes

@@ -4,21 +4,21 @@ use Rattle.std.specs.Prelude.{◌≡◌, ◌<◌, ◌^◌, ℕ, [], length, slic
 use Rattle.std.specs.List.{AllByRecursion, list_any}
 use Rattle.std.specs.Str.{bytes_eq}
 use Rattle.std.specs.Int.{w32}
-use Rattle.cjc_world.specs.LowerBytes.AccessFlags.{is_interface}
-use Rattle.cjc_components.specs.ClassFile.declared.tree.ClassTree.{ClassTree}
-use Rattle.cjc_components.specs.ClassFile.declared.tree.FieldTree.{FieldTree}
-use Rattle.cjc_world.specs.LowerExportFile.declared.tree.ExportTree.{ExportTree}
-use Rattle.cjc_world.specs.LowerExportFile.Pool.{aid_length}
-use Rattle.cjc_world.specs.LowerExportFile.Members.{as_desc}
-use Rattle.cjc_world.specs.LowerExportFile.ExportFile.{method_count}
-use Rattle.cjc_world.specs.LowerExportFile.Root.{object}
-use Rattle.cjc_world.specs.LowerExportFile.Written.{constants}
-use Rattle.cjc_world.specs.LowerExportFile.Writable.{EachAfter, IsText, IsWritable, MethodStands}
-use Rattle.cjc_components.specs.List.Listed.{ListTree}
+use Rattle.cjc_world.specs.Bytes.AccessFlags.{is_interface}
+use Rattle.cjc_world.specs.ClassFile.declared.tree.ClassTree.{ClassTree}
+use Rattle.cjc_world.specs.ClassFile.declared.tree.FieldTree.{FieldTree}
+use Rattle.cjc_world.specs.ExportFile.declared.tree.ExportTree.{ExportTree}
+use Rattle.cjc_world.specs.ExportFile.Pool.{aid_length}
+use Rattle.cjc_world.specs.ExportFile.Members.{as_desc}
+use Rattle.cjc_world.specs.ExportFile.ExportFile.{method_count}
+use Rattle.cjc_world.specs.ExportFile.Root.{object}
+use Rattle.cjc_world.specs.ExportFile.Written.{constants}
+use Rattle.cjc_world.specs.ExportFile.Writable.{EachAfter, IsText, IsWritable, MethodStands}
+use Rattle.cjc_components.specs.LowerList.Listed.{ListTree}
 use Rattle.cjc_world.specs.Classes.{Class, class_at}
 use Rattle.cjc_world.specs.Rules.{is_second}
-use Rattle.cjc_components.specs.ClassOrder.Supers.Supers.{interfaces, superclasses}
-use Rattle.cjc_components.specs.Tokens.Rules.{FewCells, FewExported, token_breaks}
+use Rattle.cjc_components.specs.LowerClassOrder.Supers.Supers.{interfaces, superclasses}
+use Rattle.cjc_components.specs.LowerTokens.Rules.{FewCells, FewExported, token_breaks}
 use Rattle.cjc_components.specs.Package.{Package, has_applets, world}
 use Rattle.cjc_components.specs.Exports.{exported_classes}
 use Rattle.cjc_components.specs.ExportFile.{export_class, export_of}

@@ -1,10 +1,8 @@
 pub mod ExportFile
 pub mod Exportable
 -- Definitions of lower crates, for those above.
-pub mod List
-pub mod CapRead
-pub mod ClassOrder
-pub mod Subset
-pub mod Tokens
-pub mod Clinit
-pub mod Layout
+pub mod Bytes
+pub mod Fixpoint
+pub mod ClassFile
+pub mod World
+pub mod Components

@@ -1,7 +1,7 @@
 //! What the rules of a package promise of its export file: that the tree which is written fits the format of
 //! export files (Java Card Virtual Machine Specification 2.2.2, chapter 5), so that its bytes spell it. For
 //! whoever converts a package. Nothing here runs.
-ghost use Rattle.cjc_world.specs.LowerExportFile.Writable.{IsWritable};
+ghost use Rattle.cjc_world.specs.ExportFile.Writable.{IsWritable};
 ghost use Rattle.cjc_components.specs.ExportFile.{export_of};
 ghost use Rattle.cjc_components.specs.Package.{Package};
 ghost use Rattle.cjc_exported.specs.Exportable.{ClassesStand, IsExportable};

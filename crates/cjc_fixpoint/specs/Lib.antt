@@ -10,4 +10,4 @@ pub mod Tables
 pub mod Walks
 pub mod Working
 -- Definitions of lower crates, for those above.
-pub mod LowerBytes
+pub mod Bytes

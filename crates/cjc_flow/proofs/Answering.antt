@@ -1,9 +1,9 @@
 -- What the table that is found is, and what a walk over it goes through.
 use Rattle.std.proofs.Common.{◌≡◌, ℕ, List, length, Option, Result, Ok, Err, IfOk, sym, ap, ◌∙◌, subst, ℤ}
-use Rattle.cjc_intervals.specs.Bytes.declared.fault.MemberId.{MemberId}
+use Rattle.cjc_fixpoint.specs.Bytes.declared.fault.MemberId.{MemberId}
 use Rattle.cjc_fixpoint.specs.declared.table.Table.{Table}
 use Rattle.cjc_fixpoint.specs.Kept.{StandsForLeast, full}
-use Rattle.cjc_intervals.specs.World.Classes.{Class}
+use Rattle.cjc_types.specs.World.Classes.{Class}
 use Rattle.cjc_types.specs.declared.table.TypeTable.{TypeTable}
 use Rattle.cjc_types.specs.Flow.{Body}
 use Rattle.cjc_types.specs.Tables.{IsTypeTable, rows_of}

@@ -1,8 +1,8 @@
 -- What an instruction does by the elements of its array is what it does by the types of its stack.
 use Rattle.std.proofs.Common.{◌≡◌, List, ◌++◌, drop, Option, refl, ap, ◌∙◌, ℤ}
 use Rattle.cjc_range.specs.Span.{Span}
-use Rattle.cjc_types.specs.LowerBytecode.declared.insn.JOp.{JOp}
-use Rattle.cjc_types.specs.LowerBytecode.declared.insn.JOp.TheVariants as jop
+use Rattle.cjc_types.specs.Bytecode.declared.insn.JOp.{JOp}
+use Rattle.cjc_types.specs.Bytecode.declared.insn.JOp.TheVariants as jop
 use Rattle.cjc_types.specs.declared.cell.Cell.{Cell}
 use Rattle.cjc_types.specs.Steps.{takes}
 use Rattle.cjc_intervals.specs.Frames.{StackOf, Cells, Clash, RangeState, stack_of}

@@ -7,7 +7,7 @@ use Rattle.std.proofs.lemmas.Option.{slice_get_within, slice_get-get_or, get_or_
 use Rattle.cjc_fixpoint.specs.Kept.{mark_of}
 use Rattle.cjc_fixpoint.proofs.Runs.{mark_is}
 use Rattle.cjc_fixpoint.proofs.Walking.{kept_in_full}
-use Rattle.cjc_intervals.specs.World.Classes.{Class}
+use Rattle.cjc_types.specs.World.Classes.{Class}
 use Rattle.cjc_types.specs.declared.state.State.{State}
 use Rattle.cjc_types.specs.declared.table.Frame.{Frame}
 use Rattle.cjc_types.specs.declared.table.TypeTable.{TypeTable}

@@ -1,9 +1,9 @@
 -- The constants of fields that instructions get: of types whose values are numbers, and which instruction gets which.
 use Rattle.std.specs.Prelude.{◌≡◌, true, List, map, Option, Some, None, ℤ}
-use Rattle.cjc_intervals.specs.Bytes.declared.fault.MemberId.{MemberId}
-use Rattle.cjc_types.specs.LowerBytecode.declared.insn.JInsn.{JInsn}
-use Rattle.cjc_types.specs.LowerBytecode.declared.insn.JOp.{JOp}
-use Rattle.cjc_types.specs.LowerBytecode.declared.insn.JOp.TheVariants as jop
+use Rattle.cjc_fixpoint.specs.Bytes.declared.fault.MemberId.{MemberId}
+use Rattle.cjc_types.specs.Bytecode.declared.insn.JInsn.{JInsn}
+use Rattle.cjc_types.specs.Bytecode.declared.insn.JOp.{JOp}
+use Rattle.cjc_types.specs.Bytecode.declared.insn.JOp.TheVariants as jop
 use Rattle.cjc_types.specs.Types.{parts, value_of}
 use Rattle.cjc_types.specs.Rules.{is_number}
 

@@ -4,7 +4,10 @@ pub mod Tables
 pub mod Working
 pub mod Tests
 -- Definitions of lower crates, for those above.
-pub mod Bytes
-pub mod Fixpoint
-pub mod Types
-pub mod Intervals
+pub mod Range
+pub mod LowerFixpoint
+pub mod ClassFile
+pub mod Bytecode
+pub mod World
+pub mod LowerTypes
+pub mod LowerIntervals

@@ -1,6 +1,6 @@
 -- The range table of a method, with rows at its marked places.
 use Rattle.std.specs.Prelude.{◌≡◌, ℕ, List, length, Option, ℤ}
-use Rattle.cjc_intervals.specs.Bytes.declared.fault.MemberId.{MemberId}
+use Rattle.cjc_fixpoint.specs.Bytes.declared.fault.MemberId.{MemberId}
 use Rattle.cjc_fixpoint.specs.Kept.{StandsForLeast, full}
 use Rattle.cjc_types.specs.declared.state.State.{State}
 use Rattle.cjc_types.specs.Flow.{Body}

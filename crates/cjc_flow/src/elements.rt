@@ -1,7 +1,7 @@
 //! What array loads of a method give, by its types. Called by ranging.rt.
 
 ghost use Rattle.std.specs.Prelude.{◌≡◌, List, option_map, IfOk};
-ghost use Rattle.cjc_intervals.specs.World.Classes.{Class};
+ghost use Rattle.cjc_types.specs.World.Classes.{Class};
 ghost use Rattle.cjc_types.specs.Tables.{IsTypeTable, rows_of, state_of};
 ghost use Rattle.cjc_flow.specs.Working.Given.{element_at as element_by, element_given as given_element, elements_of};
 

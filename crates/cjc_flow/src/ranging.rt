@@ -2,13 +2,13 @@
 
 ghost use Rattle.std.specs.Prelude.{◌≡◌, ◌<◌, ◌==◌, ◌||◌, not, ◌++◌, ℕ, Option, List, ℤ, Some, None, map, filter_map};
 ghost use Rattle.std.specs.Prelude.{length, slice_get, get_or, IfOk, OnOk};
-ghost use Rattle.cjc_intervals.specs.Bytes.declared.fault.MemberId.{MemberId as Field};
-ghost use Rattle.cjc_intervals.specs.ClassFile.Code.{CodeTree};
-ghost use Rattle.cjc_intervals.specs.ClassFile.declared.tree.ClassTree.{ClassTree as Class};
-ghost use Rattle.cjc_intervals.specs.ClassFile.declared.tree.MethodTree.{MethodTree as ClassMethod};
-ghost use Rattle.cjc_types.specs.LowerBytecode.declared.insn.JInsn.{JInsn as Insn};
+ghost use Rattle.cjc_fixpoint.specs.Bytes.declared.fault.MemberId.{MemberId as Field};
+ghost use Rattle.cjc_types.specs.ClassFile.Code.{CodeTree};
+ghost use Rattle.cjc_types.specs.ClassFile.declared.tree.ClassTree.{ClassTree as Class};
+ghost use Rattle.cjc_types.specs.ClassFile.declared.tree.MethodTree.{MethodTree as ClassMethod};
+ghost use Rattle.cjc_types.specs.Bytecode.declared.insn.JInsn.{JInsn as Insn};
 ghost use Rattle.cjc_fixpoint.specs.Kept.{IsAscending, StandsForLeast, mark_of as mark_by};
-ghost use Rattle.cjc_intervals.specs.World.Classes.{all_classes};
+ghost use Rattle.cjc_types.specs.World.Classes.{all_classes};
 ghost use Rattle.cjc_types.specs.declared.state.State.{State as TypeState};
 ghost use Rattle.cjc_types.specs.Flow.{body_of};
 ghost use Rattle.cjc_types.specs.Marks.{is_marked, marks_of};

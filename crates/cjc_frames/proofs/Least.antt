@@ -1,7 +1,7 @@
 -- A method has one least table, and with it one answer.
 use Rattle.std.proofs.Common.{◌≡◌, ◌⊎◌, ◌≤◌, ◌<◌, ℕ, List, length, slice_get, Option, Some, None}
 use Rattle.std.proofs.Common.{MatchOption, refl, sym, ◌∙◌, ap, subst, inl, inr, arith}
-use Rattle.cjc_fixpoint.specs.LowerBytes.declared.breaks.BrokenAt.{BrokenAt}
+use Rattle.cjc_fixpoint.specs.Bytes.declared.breaks.BrokenAt.{BrokenAt}
 use Rattle.cjc_fixpoint.specs.Tables.{HasRow}
 use Rattle.cjc_types.specs.declared.state.State.{State}
 use Rattle.cjc_types.specs.Working.StateLaws.{same_state}

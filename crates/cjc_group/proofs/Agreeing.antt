@@ -10,8 +10,8 @@ use Rattle.cjc_bytes.specs.Breaks.{Break, at, each_from}
 use Rattle.cjc_bytes.proofs.Bools.{not_false, true_not_false}
 use Rattle.cjc_bytes.proofs.BrokenRules.{not_broken, empty_both}
 use Rattle.cjc_bytes.proofs.Gets.{any_off}
-use Rattle.cjc_world.specs.LowerExportFile.declared.tree.ExportClass.{ExportClass}
-use Rattle.cjc_world.specs.LowerExportFile.declared.tree.ExportTree.{ExportTree}
+use Rattle.cjc_world.specs.ExportFile.declared.tree.ExportClass.{ExportClass}
+use Rattle.cjc_world.specs.ExportFile.declared.tree.ExportTree.{ExportTree}
 use Rattle.cjc_group.specs.Agree.{Agree, Imports, IsWrittenBefore}
 use Rattle.cjc_group.specs.Members.{Member}
 use Rattle.cjc_group.specs.Rules.{breaks, class_breaks, differs_from, differs_from_one, imports, imports_differing}

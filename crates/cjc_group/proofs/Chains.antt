@@ -2,8 +2,8 @@
 use Rattle.std.proofs.Common.{◌≡◌, ℕ, suc, ◌+◌, ◌-◌, ◌<◌, ◌≤◌, refl, sym, ap, ◌∙◌, arith, List, [], ◌∷◌, ◌++◌}
 use Rattle.std.proofs.Common.{length, drop, get_or, add-one, drop-cons, append_assoc, Option, Some, None}
 use Rattle.std.proofs.lemmas.List.{append-nil, drop_all}
-use Rattle.cjc_world.specs.LowerClassFile.declared.tree.ClassTree.{ClassTree}
-use Rattle.cjc_world.specs.LowerClassFile.declared.tree.MethodTree.{MethodTree}
+use Rattle.cjc_world.specs.ClassFile.declared.tree.ClassTree.{ClassTree}
+use Rattle.cjc_world.specs.ClassFile.declared.tree.MethodTree.{MethodTree}
 use Rattle.cjc_group.specs.Implementing.{Declared, class_file, class_limit, declared_from, declared_in, method_in}
 use Rattle.cjc_group.specs.Implementing.{selected_in, upwards}
 use Rattle.cjc_group.specs.Members.{Member}

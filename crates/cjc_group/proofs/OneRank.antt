@@ -8,7 +8,7 @@ use Rattle.cjc_bytes.specs.Refused.{in_class}
 use Rattle.cjc_bytes.specs.declared.order.FileKey.TheVariants as keys
 use Rattle.cjc_bytes.proofs.Firsts.{among_either}
 use Rattle.cjc_bytes.proofs.BrokenRules.{none_among, in_at}
-use Rattle.cjc_world.specs.LowerClassFile.declared.tree.ClassTree.{ClassTree}
+use Rattle.cjc_world.specs.ClassFile.declared.tree.ClassTree.{ClassTree}
 use Rattle.cjc_group.specs.Implementing.{lacks_implementation}
 use Rattle.cjc_group.specs.Members.{Member}
 use Rattle.cjc_group.specs.Rules.{breaks, class_at, class_breaks, list_at, list_breaks, member_breaks}

@@ -7,8 +7,8 @@ use Rattle.std.specs.List.{find, list_any}
 use Rattle.std.specs.Str.{bytes_eq}
 use Rattle.cjc_bytes.specs.AccessFlags.{is_abstract, is_private, is_protected, is_public}
 use Rattle.cjc_world.specs.Classes.{Class, all_classes, class_named}
-use Rattle.cjc_world.specs.LowerClassFile.declared.tree.ClassTree.{ClassTree}
-use Rattle.cjc_world.specs.LowerClassFile.declared.tree.MethodTree.{MethodTree}
+use Rattle.cjc_world.specs.ClassFile.declared.tree.ClassTree.{ClassTree}
+use Rattle.cjc_world.specs.ClassFile.declared.tree.MethodTree.{MethodTree}
 use Rattle.cjc_world.specs.Lookup.{is_selectable}
 use Rattle.cjc_group.specs.Members.{Member}
 

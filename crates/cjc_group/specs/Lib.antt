@@ -8,6 +8,5 @@ pub mod Rules
 pub mod Agree
 pub mod Worked
 -- Definitions of lower crates, for those above.
-pub mod List
-pub mod ClassFile
-pub mod ExportFile
+pub mod Bytes
+pub mod World

@@ -7,9 +7,9 @@ use Rattle.std.specs.Str.{bytes_eq}
 use Rattle.cjc_bytes.specs.Breaks.{Break, RulePlace, at, class_spot, each}
 use Rattle.cjc_bytes.specs.Order.{FilePlace}
 use Rattle.cjc_bytes.specs.declared.order.FileKey.TheVariants as keys
-use Rattle.cjc_world.specs.LowerClassFile.declared.tree.ClassTree.{ClassTree}
-use Rattle.cjc_world.specs.LowerExportFile.declared.tree.ExportClass.{ExportClass}
-use Rattle.cjc_world.specs.LowerExportFile.declared.tree.ExportTree.{ExportTree}
+use Rattle.cjc_world.specs.ClassFile.declared.tree.ClassTree.{ClassTree}
+use Rattle.cjc_world.specs.ExportFile.declared.tree.ExportClass.{ExportClass}
+use Rattle.cjc_world.specs.ExportFile.declared.tree.ExportTree.{ExportTree}
 use Rattle.cjc_group.specs.Implementing.{class_file, lacks_implementation}
 use Rattle.cjc_group.specs.Members.{Member}
 use Rattle.cjc_group.specs.Trees.{same_tree}

@@ -5,12 +5,7 @@
 // Lower crates, for those above.
 /// What crates above take of cjc_bytes.
 pub mod bytes {
-    pub use cjc_bytes::{Bytes, Fault, FileLine, MemberId, NoMemory, Refusal, Row, refused};
-}
-
-/// What crates above take of cjc_list.
-pub mod list {
-    pub use cjc_list::List;
+    pub use cjc_bytes::{Bytes, Fault, FileLine, NoMemory, Refusal, Row, refused};
 }
 
 /// What crates above take of export_file.
@@ -20,7 +15,7 @@ pub mod export_file {
 
 /// What crates above take of cjc_world.
 pub mod world {
-    pub use cjc_world::{ArrayCell, StaticImage, ValueCell, World};
+    pub use cjc_world::{StaticImage, World};
 }
 
 mod implementing;

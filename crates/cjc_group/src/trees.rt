@@ -4,7 +4,7 @@ ghost use Rattle.std.specs.Prelude.{◌≡◌};
 ghost use Rattle.std.specs.Bool.{Decides};
 ghost use Rattle.cjc_group.specs.Trees.{are_alike, same, same_class, same_constant, same_field, same_method};
 ghost use Rattle.cjc_group.specs.Trees.{same_names, same_tree};
-ghost use Rattle.cjc_world.specs.LowerExportFile.declared.tree.ExportTree.{ExportTree as Tree};
+ghost use Rattle.cjc_world.specs.ExportFile.declared.tree.ExportTree.{ExportTree as Tree};
 
 use cjc_bytes::Bytes;
 use cjc_world::export_file::{ExportClass, ExportField, ExportMethod, ExportTree};

@@ -3,31 +3,31 @@ use Rattle.std.proofs.Common.{◌≡◌, ℕ, refl, sym, ap, ◌∙◌, Bool, tr
 use Rattle.std.specs.Prelude.{Option, Some, None, is_some, slice_get}
 use Rattle.std.specs.List.{Contains}
 use Rattle.cjc_check_proof.proofs.BytesGets.{any_off}
-use Rattle.cjc_check_proof.specs.Bytes.declared.fault.MemberId.{MemberId}
-use Rattle.cjc_ncode.specs.Bytecode.PackageCodes.{all_codes}
-use Rattle.cjc_ncode.specs.Bytecode.declared.method_code.MethodCode.{MethodCode}
-use Rattle.cjc_check_proof.specs.LowerTokens.Members.{is_initialiser}
-use Rattle.cjc_int_narrow.specs.Types.Flow.{Body, body_of}
-use Rattle.cjc_int_narrow.specs.Types.Tables.{IsMethodOf}
-use Rattle.cjc_int_narrow.specs.Types.declared.state.State.{State}
-use Rattle.cjc_int_narrow.specs.Intervals.Frames.{RangeState}
-use Rattle.cjc_int_narrow.specs.JvmSemantics.Linked.{Method}
-use Rattle.cjc_int_narrow.specs.JvmSemantics.OnePackage.{method_at, method_by}
-use Rattle.cjc_check_proof.specs.List.Listed.{ListTree}
-use Rattle.cjc_int_narrow.specs.Narrow.Rows.Package.{code_of}
-use Rattle.cjc_int_narrow.specs.Narrow.Rows.Selected.{near_fields}
-use Rattle.cjc_ncode.specs.ClassFile.Code.{CodeTree}
-use Rattle.cjc_ncode.specs.ClassFile.declared.tree.ClassTree.{ClassTree}
-use Rattle.cjc_ncode.specs.ClassFile.declared.tree.MethodTree.{MethodTree}
-use Rattle.cjc_check_proof.specs.World.Files.{Files}
-use Rattle.cjc_check_proof.specs.World.declared.found.Found.{Found}
-use Rattle.cjc_check_proof.specs.Components.Components.{components_of, header, header_flags, uses_int}
-use Rattle.cjc_check_proof.specs.Components.Exports.{export}
-use Rattle.cjc_check_proof.specs.Components.Package.{LaidMethod, Package, has_applets, pool, world}
-use Rattle.cjc_check_proof.specs.Components.Written.{IsPackage, code_by}
-use Rattle.cjc_int_narrow.specs.IntMode.Modes.{IsModeOf}
-use Rattle.cjc_int_narrow.specs.IntMode.declared.modes.Mode.{Mode}
-use Rattle.cjc_int_narrow.specs.IntMode.declared.modes.Mode.TheVariants as modes
+use Rattle.cjc_int_narrow.specs.Bytes.declared.fault.MemberId.{MemberId}
+use Rattle.cjc_int_narrow.specs.Bytecode.PackageCodes.{all_codes}
+use Rattle.cjc_int_narrow.specs.Bytecode.declared.method_code.MethodCode.{MethodCode}
+use Rattle.cjc_check_proof.specs.Tokens.Members.{is_initialiser}
+use Rattle.cjc_check_proof.specs.Types.Flow.{Body, body_of}
+use Rattle.cjc_check_proof.specs.Types.Tables.{IsMethodOf}
+use Rattle.cjc_check_proof.specs.Types.declared.state.State.{State}
+use Rattle.cjc_check_proof.specs.Intervals.Frames.{RangeState}
+use Rattle.cjc_check_proof.specs.JvmSemantics.Linked.{Method}
+use Rattle.cjc_check_proof.specs.JvmSemantics.OnePackage.{method_at, method_by}
+use Rattle.cjc_check_proof.specs.LowerList.Listed.{ListTree}
+use Rattle.cjc_int_narrow.specs.LowerNarrow.Rows.Package.{code_of}
+use Rattle.cjc_int_narrow.specs.LowerNarrow.Rows.Selected.{near_fields}
+use Rattle.cjc_int_narrow.specs.ClassFile.Code.{CodeTree}
+use Rattle.cjc_int_narrow.specs.ClassFile.declared.tree.ClassTree.{ClassTree}
+use Rattle.cjc_int_narrow.specs.ClassFile.declared.tree.MethodTree.{MethodTree}
+use Rattle.cjc_int_narrow.specs.World.Files.{Files}
+use Rattle.cjc_int_narrow.specs.World.declared.found.Found.{Found}
+use Rattle.cjc_check_proof.specs.LowerComponents.Components.{components_of, header, header_flags, uses_int}
+use Rattle.cjc_check_proof.specs.LowerComponents.Exports.{export}
+use Rattle.cjc_check_proof.specs.LowerComponents.Package.{LaidMethod, Package, has_applets, pool, world}
+use Rattle.cjc_check_proof.specs.LowerComponents.Written.{IsPackage, code_by}
+use Rattle.cjc_int_narrow.specs.LowerIntMode.Modes.{IsModeOf}
+use Rattle.cjc_int_narrow.specs.LowerIntMode.declared.modes.Mode.{Mode}
+use Rattle.cjc_int_narrow.specs.LowerIntMode.declared.modes.Mode.TheVariants as modes
 use Rattle.cjc_int_components.specs.Components.{components_by_modes, has_int_mode, is_in_int_mode}
 use Rattle.cjc_int_components.specs.Modes.{AreModes, Tables, is_int}
 use Rattle.cjc_int_components.specs.Written.{IsPackageByModes, code_by_mode, code_in}

@@ -1,37 +1,37 @@
 -- What is written for a method in int mode is that of its class file, by its tables.
 use Rattle.std.proofs.Common.{◌≡◌, ◌<◌, ◌≤◌, ℕ, sym, ap, subst, ◌∙◌, List, length}
 use Rattle.std.specs.Prelude.{Option, Some, Ok, slice_get}
-use Rattle.cjc_check_proof.specs.Bytes.declared.fault.MemberId.{MemberId}
+use Rattle.cjc_int_narrow.specs.Bytes.declared.fault.MemberId.{MemberId}
 use Rattle.std.specs.List.{Contains}
-use Rattle.cjc_ncode.specs.Bytecode.PackageCodes.{all_codes}
-use Rattle.cjc_ncode.specs.Bytecode.Decoded.{decoded, decoding, insns_of, of_code, of_method}
-use Rattle.cjc_ncode.specs.Bytecode.declared.insn.JInsn.{JInsn}
-use Rattle.cjc_ncode.specs.Bytecode.declared.method_code.MethodCode.{MethodCode}
-use Rattle.cjc_check_proof.specs.Components.Package.{LaidMethod}
-use Rattle.cjc_check_proof.specs.Emit.Emitted.{CanBeWritten, placed_at}
-use Rattle.cjc_check_proof.specs.Emit.Said.{CanBeSaid}
-use Rattle.cjc_int_narrow.specs.Intervals.Frames.{RangeState}
-use Rattle.cjc_int_narrow.specs.JvmSemantics.Linked.{Method}
-use Rattle.cjc_int_narrow.specs.JvmSemantics.OnePackage.{method_at, method_by}
-use Rattle.cjc_int_narrow.specs.Layout.Legal.{IsLeast}
-use Rattle.cjc_int_narrow.specs.Layout.Layouts.{IsWhole}
-use Rattle.cjc_int_narrow.specs.Narrow.Rows.Package.{read_of, tree_of}
-use Rattle.cjc_int_narrow.specs.Narrow.Rows.Resolved.{resolution}
+use Rattle.cjc_int_narrow.specs.Bytecode.PackageCodes.{all_codes}
+use Rattle.cjc_int_narrow.specs.Bytecode.Decoded.{decoded, decoding, insns_of, of_code, of_method}
+use Rattle.cjc_int_narrow.specs.Bytecode.declared.insn.JInsn.{JInsn}
+use Rattle.cjc_int_narrow.specs.Bytecode.declared.method_code.MethodCode.{MethodCode}
+use Rattle.cjc_check_proof.specs.LowerComponents.Package.{LaidMethod}
+use Rattle.cjc_check_proof.specs.LowerEmit.Emitted.{CanBeWritten, placed_at}
+use Rattle.cjc_check_proof.specs.LowerEmit.Said.{CanBeSaid}
+use Rattle.cjc_check_proof.specs.Intervals.Frames.{RangeState}
+use Rattle.cjc_check_proof.specs.JvmSemantics.Linked.{Method}
+use Rattle.cjc_check_proof.specs.JvmSemantics.OnePackage.{method_at, method_by}
+use Rattle.cjc_check_proof.specs.Layout.Legal.{IsLeast}
+use Rattle.cjc_check_proof.specs.Layout.Layouts.{IsWhole}
+use Rattle.cjc_int_narrow.specs.LowerNarrow.Rows.Package.{read_of, tree_of}
+use Rattle.cjc_int_narrow.specs.LowerNarrow.Rows.Resolved.{resolution}
 use Rattle.cjc_ncode.specs.Lowering.Naming.{Naming}
 use Rattle.cjc_ncode.specs.Written.{Resolution}
 use Rattle.cjc_ncode.specs.declared.narrow.NInsn.{NInsn}
 use Rattle.cjc_ncode.specs.declared.narrow.NMethod.{NMethod}
-use Rattle.cjc_int_narrow.specs.Types.Flow.{body_of}
-use Rattle.cjc_int_narrow.specs.Types.Tables.{IsLeastTable, IsMethodOf}
-use Rattle.cjc_int_narrow.specs.Types.declared.state.State.{State}
-use Rattle.cjc_ncode.specs.ClassFile.Code.{CodeTree}
-use Rattle.cjc_ncode.specs.ClassFile.declared.tree.ClassTree.{ClassTree}
-use Rattle.cjc_ncode.specs.ClassFile.declared.tree.MethodTree.{MethodTree}
-use Rattle.cjc_check_proof.specs.World.Files.{Files}
-use Rattle.cjc_check_proof.specs.LowerNarrowProof.Selected.Keeps.{FindsItself}
-use Rattle.cjc_int_narrow.specs.IntMode.Written.{int_frame, places_from, reached_from, written_in_int_mode}
-use Rattle.cjc_int_narrow.specs.IntMode.declared.modes.Mode.{Mode}
-use Rattle.cjc_int_narrow.specs.IntMode.declared.modes.Mode.TheVariants as modes
+use Rattle.cjc_check_proof.specs.Types.Flow.{body_of}
+use Rattle.cjc_check_proof.specs.Types.Tables.{IsLeastTable, IsMethodOf}
+use Rattle.cjc_check_proof.specs.Types.declared.state.State.{State}
+use Rattle.cjc_int_narrow.specs.ClassFile.Code.{CodeTree}
+use Rattle.cjc_int_narrow.specs.ClassFile.declared.tree.ClassTree.{ClassTree}
+use Rattle.cjc_int_narrow.specs.ClassFile.declared.tree.MethodTree.{MethodTree}
+use Rattle.cjc_int_narrow.specs.World.Files.{Files}
+use Rattle.cjc_check_proof.specs.NarrowProof.Selected.Keeps.{FindsItself}
+use Rattle.cjc_int_narrow.specs.LowerIntMode.Written.{int_frame, places_from, reached_from, written_in_int_mode}
+use Rattle.cjc_int_narrow.specs.LowerIntMode.declared.modes.Mode.{Mode}
+use Rattle.cjc_int_narrow.specs.LowerIntMode.declared.modes.Mode.TheVariants as modes
 use Rattle.cjc_int_narrow.proofs.Stands.{int_code_whole}
 use Rattle.cjc_int_narrow.proofs.IntProofForms.{all_have_forms}
 use Rattle.cjc_int_components.specs.Made.{IsMadeByMode, in_int_mode}

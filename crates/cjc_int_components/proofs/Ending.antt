@@ -9,36 +9,36 @@ use Rattle.std.proofs.lemmas.List.{length-map}
 use Rattle.std.proofs.lemmas.List.Elements.{Contains-append_left}
 use Rattle.cjc_check_proof.proofs.BytesGets.{get_inside}
 use Rattle.cjc_ncode.proofs.BytecodeOneCut.{is_cut}
-use Rattle.cjc_ncode.specs.Bytecode.Cut.{cut, IsCutFrom}
-use Rattle.cjc_ncode.specs.Bytecode.Jvm as jvm
-use Rattle.cjc_ncode.specs.Bytecode.Rules.{stopped, with_names}
-use Rattle.cjc_ncode.specs.Bytecode.declared.insn.JInsn.{JInsn}
-use Rattle.cjc_ncode.specs.Bytecode.declared.insn.JOp.{JOp}
-use Rattle.cjc_ncode.specs.Bytecode.declared.insn.JOp.TheVariants as jop
-use Rattle.cjc_ncode.specs.Bytecode.declared.method_code.MethodCode.{MethodCode}
-use Rattle.cjc_int_narrow.specs.Fixpoint.Working.Edges.{contains_head}
-use Rattle.cjc_ncode.specs.Script.Sorts.{Sort, Boolean, Byte, Short, Int, Reference, NoValue}
-use Rattle.cjc_ncode.specs.ClassFile.Code.{CodeTree}
-use Rattle.cjc_ncode.specs.ClassFile.declared.tree.ClassTree.{ClassTree}
-use Rattle.cjc_ncode.specs.ClassFile.declared.tree.MethodTree.{MethodTree}
-use Rattle.cjc_check_proof.specs.World.Files.{Files}
-use Rattle.cjc_ncode.specs.CapRead.Card as card
+use Rattle.cjc_int_narrow.specs.Bytecode.Cut.{cut, IsCutFrom}
+use Rattle.cjc_int_narrow.specs.Bytecode.Jvm as jvm
+use Rattle.cjc_int_narrow.specs.Bytecode.Rules.{stopped, with_names}
+use Rattle.cjc_int_narrow.specs.Bytecode.declared.insn.JInsn.{JInsn}
+use Rattle.cjc_int_narrow.specs.Bytecode.declared.insn.JOp.{JOp}
+use Rattle.cjc_int_narrow.specs.Bytecode.declared.insn.JOp.TheVariants as jop
+use Rattle.cjc_int_narrow.specs.Bytecode.declared.method_code.MethodCode.{MethodCode}
+use Rattle.cjc_check_proof.specs.Fixpoint.Working.Edges.{contains_head}
+use Rattle.cjc_int_narrow.specs.Script.Sorts.{Sort, Boolean, Byte, Short, Int, Reference, NoValue}
+use Rattle.cjc_int_narrow.specs.ClassFile.Code.{CodeTree}
+use Rattle.cjc_int_narrow.specs.ClassFile.declared.tree.ClassTree.{ClassTree}
+use Rattle.cjc_int_narrow.specs.ClassFile.declared.tree.MethodTree.{MethodTree}
+use Rattle.cjc_int_narrow.specs.World.Files.{Files}
+use Rattle.cjc_check_proof.specs.CapRead.Card as card
 use Rattle.cjc_int_narrow.proofs.TypesLowered.{least_closed}
 use Rattle.cjc_int_narrow.proofs.TypesStanding.{next_there}
-use Rattle.cjc_int_narrow.specs.Types.Flow.{Body, body_of, next_place, successors}
-use Rattle.cjc_int_narrow.specs.Types.Steps.{goes_on}
-use Rattle.cjc_int_narrow.specs.Types.Tables.{IsLeastTable, IsMethodOf}
-use Rattle.cjc_int_narrow.specs.Types.TypeLaws.Closed.{IsClosedTable}
-use Rattle.cjc_int_narrow.specs.Types.declared.state.State.{State}
-use Rattle.cjc_int_narrow.specs.Intervals.Frames.{RangeState}
+use Rattle.cjc_check_proof.specs.Types.Flow.{Body, body_of, next_place, successors}
+use Rattle.cjc_check_proof.specs.Types.Steps.{goes_on}
+use Rattle.cjc_check_proof.specs.Types.Tables.{IsLeastTable, IsMethodOf}
+use Rattle.cjc_check_proof.specs.Types.TypeLaws.Closed.{IsClosedTable}
+use Rattle.cjc_check_proof.specs.Types.declared.state.State.{State}
+use Rattle.cjc_check_proof.specs.Intervals.Frames.{RangeState}
 use Rattle.cjc_ncode.specs.declared.narrow.NInsn.{NInsn}
 use Rattle.cjc_ncode.specs.declared.narrow.NInsn.TheVariants.{Op}
 use Rattle.cjc_ncode.specs.Written.{Resolution, leaving}
 use Rattle.cjc_ncode.specs.IntCode.IntCode.{Before, Frame, Reached, place_in, prologue, returned, written, written_from}
 use Rattle.cjc_check_proof.proofs.NarrowProofCuts.{decoded, few}
-use Rattle.cjc_check_proof.specs.LowerCheckRules.Instructions.{ends_code}
+use Rattle.cjc_check_proof.specs.CheckRules.Instructions.{ends_code}
 use Rattle.cjc_check_proof.specs.Code.Ends.{last_ends}
-use Rattle.cjc_int_narrow.specs.IntMode.Written.{before, int_frame, reached_from, written_in_int_mode}
+use Rattle.cjc_int_narrow.specs.LowerIntMode.Written.{before, int_frame, reached_from, written_in_int_mode}
 
 -- ---- lists
 

@@ -1,11 +1,11 @@
 -- What is named in int mode is of the kind that its opcode uses.
 use Rattle.std.proofs.Common.{◌≡◌, ℕ, sym, ap, subst, ◌∙◌, Bool, true, List, [], ◌∷◌, ◌++◌, append-nil}
 use Rattle.std.specs.Prelude.{flat_map, slice_get}
-use Rattle.cjc_check_proof.specs.Bytes.declared.fault.MemberId.{MemberId}
-use Rattle.cjc_ncode.specs.Script.Sorts.{Sort, field_sort}
-use Rattle.cjc_check_proof.specs.World.Files.{Files}
-use Rattle.cjc_ncode.specs.Bytecode.declared.insn.JInsn.{JInsn}
-use Rattle.cjc_ncode.specs.Bytecode.declared.insn.JOp.{JOp}
+use Rattle.cjc_int_narrow.specs.Bytes.declared.fault.MemberId.{MemberId}
+use Rattle.cjc_int_narrow.specs.Script.Sorts.{Sort, field_sort}
+use Rattle.cjc_int_narrow.specs.World.Files.{Files}
+use Rattle.cjc_int_narrow.specs.Bytecode.declared.insn.JInsn.{JInsn}
+use Rattle.cjc_int_narrow.specs.Bytecode.declared.insn.JOp.{JOp}
 use Rattle.cjc_ncode.specs.Written.{Resolution, static_access, written, written_for}
 use Rattle.cjc_ncode.specs.declared.narrow.NInsn.{NInsn}
 use Rattle.cjc_ncode.specs.declared.narrow.NInsn.TheVariants as insns
@@ -13,10 +13,10 @@ use Rattle.cjc_ncode.specs.declared.narrow.PairRole.{PairRole}
 use Rattle.cjc_ncode.specs.declared.narrow.PairRole.TheVariants.{Alone}
 use Rattle.cjc_ncode.specs.declared.narrow.PoolKey.TheVariants as keys
 use Rattle.cjc_int_narrow.proofs.NarrowRoles.{written_as_same}
-use Rattle.cjc_int_narrow.specs.Narrow.Rows.Resolved.{resolution}
+use Rattle.cjc_int_narrow.specs.LowerNarrow.Rows.Resolved.{resolution}
 use Rattle.cjc_check_proof.proofs.PromisesLaws.KeyKinds.{code_has_kinds, static_suits, suits}
 use Rattle.cjc_check_proof.specs.Code.Kinds.{HasKind}
-use Rattle.cjc_int_narrow.specs.IntProof.Operands.{names_nothing}
+use Rattle.cjc_int_narrow.specs.LowerIntProof.Operands.{names_nothing}
 use Rattle.cjc_int_components.specs.Names.{NamesAs, nothing, outside, static_field}
 
 -- no instruction opens or closes a pair

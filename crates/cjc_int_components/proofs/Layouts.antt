@@ -5,15 +5,15 @@ use Rattle.cjc_ncode.specs.Lowering.Naming.{Naming}
 use Rattle.cjc_ncode.specs.declared.narrow.NInsn.{NInsn}
 use Rattle.cjc_ncode.specs.declared.narrow.NMethod.{NMethod}
 use Rattle.cjc_int_narrow.proofs.LayoutPlaces.{all_wide}
-use Rattle.cjc_int_narrow.specs.Layout.Forms.{HasForm}
-use Rattle.cjc_int_narrow.specs.Layout.Handlers.{handlers_of, table_order}
-use Rattle.cjc_int_narrow.specs.Layout.Layouts.{IsLayout, IsWhole}
-use Rattle.cjc_int_narrow.specs.Layout.Legal.{IsLeast}
-use Rattle.cjc_int_narrow.specs.Layout.Sizes.{bytes_before, code_size}
-use Rattle.cjc_int_narrow.specs.Layout.declared.layout.Layout.{Layout}
+use Rattle.cjc_check_proof.specs.Layout.Forms.{HasForm}
+use Rattle.cjc_check_proof.specs.Layout.Handlers.{handlers_of, table_order}
+use Rattle.cjc_check_proof.specs.Layout.Layouts.{IsLayout, IsWhole}
+use Rattle.cjc_check_proof.specs.Layout.Legal.{IsLeast}
+use Rattle.cjc_check_proof.specs.Layout.Sizes.{bytes_before, code_size}
+use Rattle.cjc_check_proof.specs.Layout.declared.layout.Layout.{Layout}
 use Rattle.cjc_check_proof.proofs.EmitSaid.{layout_written}
-use Rattle.cjc_check_proof.specs.Emit.Emitted.{CanBeWritten, placed_at}
-use Rattle.cjc_check_proof.specs.Emit.Said.{CanBeSaid}
+use Rattle.cjc_check_proof.specs.LowerEmit.Emitted.{CanBeWritten, placed_at}
+use Rattle.cjc_check_proof.specs.LowerEmit.Said.{CanBeSaid}
 
 -- what a function gives for so many numbers from one on
 values_from : (to : ℕ → ℕ) (first count : ℕ) → List ℕ

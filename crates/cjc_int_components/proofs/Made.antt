@@ -1,31 +1,31 @@
 -- Methods that come to their code by their modes keep all that consistent code asks.
 use Rattle.std.proofs.Common.{◌≡◌, ◌<◌, ℕ, zero, suc, refl, sym, ap, subst, ◌∙◌, List, [], ◌∷◌, length}
 use Rattle.std.specs.Prelude.{Option, Some, slice_get}
-use Rattle.cjc_check_proof.specs.Bytes.declared.fault.MemberId.{MemberId}
-use Rattle.cjc_ncode.specs.ClassFile.Code.{CodeTree}
-use Rattle.cjc_ncode.specs.ClassFile.declared.tree.ClassTree.{ClassTree}
-use Rattle.cjc_ncode.specs.ClassFile.declared.tree.MethodTree.{MethodTree}
-use Rattle.cjc_check_proof.specs.World.Files.{Files}
-use Rattle.cjc_ncode.specs.Bytecode.declared.method_code.MethodCode.{MethodCode}
-use Rattle.cjc_int_narrow.specs.Types.Flow.{body_of}
-use Rattle.cjc_int_narrow.specs.Types.declared.state.State.{State}
-use Rattle.cjc_int_narrow.specs.Intervals.Frames.{RangeState}
+use Rattle.cjc_int_narrow.specs.Bytes.declared.fault.MemberId.{MemberId}
+use Rattle.cjc_int_narrow.specs.ClassFile.Code.{CodeTree}
+use Rattle.cjc_int_narrow.specs.ClassFile.declared.tree.ClassTree.{ClassTree}
+use Rattle.cjc_int_narrow.specs.ClassFile.declared.tree.MethodTree.{MethodTree}
+use Rattle.cjc_int_narrow.specs.World.Files.{Files}
+use Rattle.cjc_int_narrow.specs.Bytecode.declared.method_code.MethodCode.{MethodCode}
+use Rattle.cjc_check_proof.specs.Types.Flow.{body_of}
+use Rattle.cjc_check_proof.specs.Types.declared.state.State.{State}
+use Rattle.cjc_check_proof.specs.Intervals.Frames.{RangeState}
 use Rattle.cjc_ncode.specs.IntCode.IntCode.{Reached}
 use Rattle.cjc_ncode.specs.Lowering.Naming.{Naming}
 use Rattle.cjc_ncode.specs.declared.narrow.NInsn.{NInsn}
 use Rattle.cjc_ncode.specs.declared.narrow.NMethod.{NMethod}
-use Rattle.cjc_int_narrow.specs.Narrow.Rows.Resolved.{resolution}
-use Rattle.cjc_int_narrow.specs.Layout.Handlers.{AllLie}
-use Rattle.cjc_int_narrow.specs.Layout.Sizes.{AllLead}
-use Rattle.cjc_check_proof.specs.Emit.Emitted.{CanBeWritten, placed_at}
-use Rattle.cjc_check_proof.specs.Components.Package.{LaidMethod}
+use Rattle.cjc_int_narrow.specs.LowerNarrow.Rows.Resolved.{resolution}
+use Rattle.cjc_check_proof.specs.Layout.Handlers.{AllLie}
+use Rattle.cjc_check_proof.specs.Layout.Sizes.{AllLead}
+use Rattle.cjc_check_proof.specs.LowerEmit.Emitted.{CanBeWritten, placed_at}
+use Rattle.cjc_check_proof.specs.LowerComponents.Package.{LaidMethod}
 use Rattle.cjc_check_proof.specs.Code.Caught.{HandlersLie}
 use Rattle.cjc_check_proof.specs.Code.Ends.{AllStayInside, StaysInside, has_end, last_ends}
 use Rattle.cjc_check_proof.specs.Code.Kinds.{AllHaveKinds, HasKind}
 use Rattle.cjc_check_proof.specs.Code.Written.{AllWritable}
 use Rattle.cjc_check_proof.specs.Made.{AllAreMade, IsMade}
 use Rattle.cjc_check_proof.proofs.PromisesLaws.Made as Outside
-use Rattle.cjc_int_narrow.specs.IntMode.Written.{int_frame, places_from, reached_from, written_in_int_mode}
+use Rattle.cjc_int_narrow.specs.LowerIntMode.Written.{int_frame, places_from, reached_from, written_in_int_mode}
 use Rattle.cjc_int_narrow.proofs.Stands.{int_code_whole}
 use Rattle.cjc_int_components.specs.Made.{AllAreMadeByMode, IsMadeByMode, in_int_mode, in_short_mode}
 use Rattle.cjc_int_components.specs.Names.{NamesAsOneOf, as_one, no_name}

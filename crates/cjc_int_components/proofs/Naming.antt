@@ -4,14 +4,14 @@ use Rattle.std.proofs.Common.{◌≡◌, ℕ, zero, suc, ◌+◌, ◌-◌, refl,
 use Rattle.std.proofs.Common.{slice_get, map, take}
 use Rattle.std.specs.Prelude.{if◌then◌else◌, nat_le, ◌==◌, Option, Some, None, ℤ, pos, negsuc}
 use Rattle.std.specs.List.{list_any}
-use Rattle.cjc_check_proof.specs.Bytes.declared.fault.MemberId.{MemberId}
-use Rattle.cjc_ncode.specs.Script.Sorts.{Sort, Int, Signature, field_sort, shape_named, signature_of}
-use Rattle.cjc_ncode.specs.CardSemantics.Bytecode.Arguments.{widths}
-use Rattle.cjc_ncode.specs.ClassFile.Code.{CodeTree}
-use Rattle.cjc_ncode.specs.CapRead.Card as card
-use Rattle.cjc_ncode.specs.Bytecode.Jvm as jvm
-use Rattle.cjc_ncode.specs.Bytecode.declared.insn.JOp.{JOp}
-use Rattle.cjc_ncode.specs.Bytecode.declared.insn.JOp.TheVariants as jop
+use Rattle.cjc_int_narrow.specs.Bytes.declared.fault.MemberId.{MemberId}
+use Rattle.cjc_int_narrow.specs.Script.Sorts.{Sort, Int, Signature, field_sort, shape_named, signature_of}
+use Rattle.cjc_int_narrow.specs.CardSemantics.Bytecode.Arguments.{widths}
+use Rattle.cjc_int_narrow.specs.ClassFile.Code.{CodeTree}
+use Rattle.cjc_check_proof.specs.CapRead.Card as card
+use Rattle.cjc_int_narrow.specs.Bytecode.Jvm as jvm
+use Rattle.cjc_int_narrow.specs.Bytecode.declared.insn.JOp.{JOp}
+use Rattle.cjc_int_narrow.specs.Bytecode.declared.insn.JOp.TheVariants as jop
 use Rattle.cjc_ncode.specs.declared.narrow.NInsn.{NInsn}
 use Rattle.cjc_ncode.specs.declared.narrow.NInsn.TheVariants.{Op, Push, Local, Inc, Words, Jump, Switch, Named}
 use Rattle.cjc_ncode.specs.declared.narrow.NInsn.TheVariants.{NewArray}
@@ -25,7 +25,7 @@ use Rattle.cjc_ncode.specs.IntCode.IntCode.{is_short, jumped, loads, moved, move
 use Rattle.cjc_ncode.specs.IntCode.IntCode.{prologue, pushed, put_aside, returned, scratch, static_get, static_put}
 use Rattle.cjc_ncode.specs.IntCode.IntCode.{stores, table_cases, taken_back, widened, widened_result, words, written}
 use Rattle.cjc_ncode.specs.IntCode.IntCode.{written_from}
-use Rattle.cjc_int_narrow.specs.IntProof.Operands.{names_nothing}
+use Rattle.cjc_int_narrow.specs.LowerIntProof.Operands.{names_nothing}
 use Rattle.cjc_int_components.specs.Names.{NamesAs, NamesAsOneOf, as_one, has_name, no_name, nothing, outside}
 use Rattle.cjc_int_components.specs.Names.{static_field}
 

@@ -3,13 +3,13 @@ use Rattle.std.proofs.Common.{◌≡◌, ℕ, zero, suc, ◌<◌, ◌≤◌, ari
 use Rattle.std.proofs.Common.{[], ◌∷◌, length}
 use Rattle.std.specs.Prelude.{Option, Some, None, slice_get, unwrap_or}
 use Rattle.std.proofs.lemmas.List.Quantifiers.{position-Some}
-use Rattle.cjc_ncode.specs.CapRead.Opcodes.{Fields, Index2, form, forms}
-use Rattle.cjc_ncode.specs.Bytecode.declared.insn.JInsn.{JInsn}
-use Rattle.cjc_ncode.specs.Bytecode.declared.insn.JOp.{JOp}
-use Rattle.cjc_ncode.specs.Bytecode.declared.insn.JOp.TheVariants as jop
-use Rattle.cjc_ncode.specs.Script.Sorts.{Sort, Boolean, Byte, Short, Int, Reference, NoValue, field_sort}
-use Rattle.cjc_ncode.specs.ClassFile.Code.{CodeTree}
-use Rattle.cjc_check_proof.specs.World.Files.{Files}
+use Rattle.cjc_check_proof.specs.CapRead.Opcodes.{Fields, Index2, form, forms}
+use Rattle.cjc_int_narrow.specs.Bytecode.declared.insn.JInsn.{JInsn}
+use Rattle.cjc_int_narrow.specs.Bytecode.declared.insn.JOp.{JOp}
+use Rattle.cjc_int_narrow.specs.Bytecode.declared.insn.JOp.TheVariants as jop
+use Rattle.cjc_int_narrow.specs.Script.Sorts.{Sort, Boolean, Byte, Short, Int, Reference, NoValue, field_sort}
+use Rattle.cjc_int_narrow.specs.ClassFile.Code.{CodeTree}
+use Rattle.cjc_int_narrow.specs.World.Files.{Files}
 use Rattle.cjc_ncode.specs.Lowering.Naming.{Naming}
 use Rattle.cjc_ncode.specs.PoolOrder.{same_key}
 use Rattle.cjc_ncode.specs.IntCode.IntCode.{Frame, Reached, int_method}
@@ -19,13 +19,13 @@ use Rattle.cjc_ncode.specs.declared.narrow.NInsn.TheVariants as insns
 use Rattle.cjc_ncode.specs.declared.narrow.PairRole.TheVariants.{Alone, Closes}
 use Rattle.cjc_ncode.specs.declared.narrow.PoolKey.{PoolKey}
 use Rattle.cjc_ncode.specs.declared.narrow.PoolKey.TheVariants as keys
-use Rattle.cjc_int_narrow.specs.Narrow.Keys.Index.{index_of}
-use Rattle.cjc_int_narrow.specs.Narrow.Rows.Resolved.{resolution}
-use Rattle.cjc_int_narrow.specs.Narrow.Rows.Selected.{near_fields}
-use Rattle.cjc_int_narrow.specs.Narrow.Written.Operands.{CanBeSaid}
+use Rattle.cjc_int_narrow.specs.LowerNarrow.Keys.Index.{index_of}
+use Rattle.cjc_int_narrow.specs.LowerNarrow.Rows.Resolved.{resolution}
+use Rattle.cjc_int_narrow.specs.LowerNarrow.Rows.Selected.{near_fields}
+use Rattle.cjc_int_narrow.specs.LowerNarrow.Written.Operands.{CanBeSaid}
 use Rattle.cjc_check_proof.proofs.NarrowProofNumbers.{all_fit}
-use Rattle.cjc_check_proof.specs.LowerNarrowProof.Selected.Operands.{IndexFits, IsSmall, NumbersFit, OperandsFit}
-use Rattle.cjc_int_narrow.specs.IntProof.Operands.{names_nothing}
+use Rattle.cjc_check_proof.specs.NarrowProof.Selected.Operands.{IndexFits, IsSmall, NumbersFit, OperandsFit}
+use Rattle.cjc_int_narrow.specs.LowerIntProof.Operands.{names_nothing}
 use Rattle.cjc_int_components.specs.Names.{NamesAs, NamesAsOneOf, WordsFit, as_one, has_name, no_name, nothing}
 use Rattle.cjc_int_components.specs.Names.{outside, static_field}
 use Rattle.cjc_int_components.proofs.KeyKinds.{alone, lone, lone_written}

@@ -3,37 +3,37 @@ use Rattle.std.proofs.Common.{◌≡◌, ℕ, zero, suc, ◌+◌, ◌*◌, ◌-�
 use Rattle.std.proofs.Common.{true, List, [], ◌∷◌}
 use Rattle.std.specs.Prelude.{Option, Some, None, slice_get, ℤ, pos, negsuc, ◌≤ℤ◌}
 use Rattle.std.proofs.lemmas.Int.{ints}
-use Rattle.cjc_check_proof.specs.Bytes.declared.fault.MemberId.{MemberId}
-use Rattle.cjc_ncode.specs.CapRead.Decode.{IsWithin, negative, positive}
+use Rattle.cjc_int_narrow.specs.Bytes.declared.fault.MemberId.{MemberId}
+use Rattle.cjc_check_proof.specs.CapRead.Decode.{IsWithin, negative, positive}
 use Rattle.cjc_ncode.proofs.BytecodeDecoded.{decoded_instruction}
 use Rattle.cjc_ncode.proofs.BytecodeMembers.{read_class}
-use Rattle.cjc_ncode.specs.Bytecode.ReadLaws.Instructions.{IsInstruction, NumbersFit}
-use Rattle.cjc_ncode.specs.Bytecode.ReadLaws.Members.{IsReadClass}
-use Rattle.cjc_ncode.specs.Bytecode.declared.insn.JInsn.{JInsn}
-use Rattle.cjc_ncode.specs.Bytecode.declared.insn.JOp.{JOp}
-use Rattle.cjc_ncode.specs.Bytecode.declared.insn.JOp.TheVariants as jop
-use Rattle.cjc_ncode.specs.Bytecode.declared.method_code.MethodCode.{MethodCode}
-use Rattle.cjc_int_narrow.specs.Fixpoint.Tables.{HasRow}
-use Rattle.cjc_ncode.specs.Range.Span.{Holds, full, short_range}
-use Rattle.cjc_ncode.specs.ClassFile.Code.{CodeTree}
-use Rattle.cjc_ncode.specs.ClassFile.declared.tree.ClassTree.{ClassTree}
-use Rattle.cjc_ncode.specs.ClassFile.declared.tree.MethodTree.{MethodTree}
-use Rattle.cjc_check_proof.specs.World.Files.{Files}
-use Rattle.cjc_int_narrow.specs.Types.Flow.{Body, body_of}
-use Rattle.cjc_int_narrow.specs.Types.Tables.{IsMethodOf}
-use Rattle.cjc_int_narrow.specs.Types.TypeLaws.Places.{local_of}
-use Rattle.cjc_int_narrow.specs.Types.declared.state.State.{State}
+use Rattle.cjc_int_narrow.specs.Bytecode.ReadLaws.Instructions.{IsInstruction, NumbersFit}
+use Rattle.cjc_int_narrow.specs.Bytecode.ReadLaws.Members.{IsReadClass}
+use Rattle.cjc_int_narrow.specs.Bytecode.declared.insn.JInsn.{JInsn}
+use Rattle.cjc_int_narrow.specs.Bytecode.declared.insn.JOp.{JOp}
+use Rattle.cjc_int_narrow.specs.Bytecode.declared.insn.JOp.TheVariants as jop
+use Rattle.cjc_int_narrow.specs.Bytecode.declared.method_code.MethodCode.{MethodCode}
+use Rattle.cjc_check_proof.specs.Fixpoint.Tables.{HasRow}
+use Rattle.cjc_int_narrow.specs.Range.Span.{Holds, full, short_range}
+use Rattle.cjc_int_narrow.specs.ClassFile.Code.{CodeTree}
+use Rattle.cjc_int_narrow.specs.ClassFile.declared.tree.ClassTree.{ClassTree}
+use Rattle.cjc_int_narrow.specs.ClassFile.declared.tree.MethodTree.{MethodTree}
+use Rattle.cjc_int_narrow.specs.World.Files.{Files}
+use Rattle.cjc_check_proof.specs.Types.Flow.{Body, body_of}
+use Rattle.cjc_check_proof.specs.Types.Tables.{IsMethodOf}
+use Rattle.cjc_check_proof.specs.Types.TypeLaws.Places.{local_of}
+use Rattle.cjc_check_proof.specs.Types.declared.state.State.{State}
 use Rattle.cjc_int_narrow.proofs.TypesStanding.{local_there}
 use Rattle.cjc_ncode.specs.IntCode.IntCode.{Frame, first_word, scratch}
 use Rattle.cjc_ncode.specs.IntCode.IntCode.{scratch_pairs_of, widest}
 use Rattle.cjc_ncode.specs.Written.{Resolution, reached}
 use Rattle.cjc_check_proof.proofs.NarrowProofCuts.{decoded}
-use Rattle.cjc_check_proof.specs.LowerNarrowProof.Selected.Keeps.{IsSpelt}
-use Rattle.cjc_int_narrow.specs.IntMode.Room.{IsRoom, many_words}
-use Rattle.cjc_int_narrow.specs.IntMode.Written.{argument_words, int_frame, local_words, most_pairs}
-use Rattle.cjc_int_narrow.specs.IntMode.declared.modes.Mode.TheVariants as modes
+use Rattle.cjc_check_proof.specs.NarrowProof.Selected.Keeps.{IsSpelt}
+use Rattle.cjc_int_narrow.specs.LowerIntMode.Room.{IsRoom, many_words}
+use Rattle.cjc_int_narrow.specs.LowerIntMode.Written.{argument_words, int_frame, local_words, most_pairs}
+use Rattle.cjc_int_narrow.specs.LowerIntMode.declared.modes.Mode.TheVariants as modes
 use Rattle.cjc_int_narrow.proofs.Whole.{few_enough}
-use Rattle.cjc_int_narrow.specs.IntProof.Operands.{IsInt, OperandsFit}
+use Rattle.cjc_int_narrow.specs.LowerIntProof.Operands.{IsInt, OperandsFit}
 use Rattle.cjc_int_components.specs.Switches.{SwitchFits}
 
 -- ---- numbers

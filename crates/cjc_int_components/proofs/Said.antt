@@ -2,11 +2,11 @@
 use Rattle.std.proofs.Common.{◌≡◌, ℕ, ◌+◌, ◌*◌, ◌≤◌, ◌<◌, refl, sym, ap, subst, ◌∙◌, Bool, true, false, List, [], ◌∷◌}
 use Rattle.std.proofs.Common.{length}
 use Rattle.std.specs.Prelude.{Some, slice_get}
-use Rattle.cjc_ncode.specs.CapRead.Decode.{below, more, none}
-use Rattle.cjc_ncode.specs.CapRead.Opcodes.{Fields, Index2, form}
-use Rattle.cjc_ncode.specs.Bytecode.declared.insn.JOp.{JOp}
-use Rattle.cjc_ncode.specs.Script.Sorts.{Sort, field_sort}
-use Rattle.cjc_ncode.specs.ClassFile.Code.{CodeTree}
+use Rattle.cjc_check_proof.specs.CapRead.Decode.{below, more, none}
+use Rattle.cjc_check_proof.specs.CapRead.Opcodes.{Fields, Index2, form}
+use Rattle.cjc_int_narrow.specs.Bytecode.declared.insn.JOp.{JOp}
+use Rattle.cjc_int_narrow.specs.Script.Sorts.{Sort, field_sort}
+use Rattle.cjc_int_narrow.specs.ClassFile.Code.{CodeTree}
 use Rattle.cjc_ncode.specs.IntCode.IntCode.{Frame, Reached, int_method, nargs}
 use Rattle.cjc_ncode.specs.Lowering.Laid.{laid}
 use Rattle.cjc_ncode.specs.Lowering.Naming.{Naming}
@@ -17,10 +17,10 @@ use Rattle.cjc_ncode.specs.declared.narrow.NInsn.TheVariants as insns
 use Rattle.cjc_ncode.specs.declared.narrow.PoolKey.{PoolKey}
 use Rattle.cjc_ncode.specs.declared.narrow.PoolKey.TheVariants as keys
 use Rattle.cjc_check_proof.proofs.NarrowProofSaid.{all_said}
-use Rattle.cjc_check_proof.specs.LowerNarrowProof.Selected.Operands.{IndexFits, NumbersFit}
-use Rattle.cjc_check_proof.specs.LowerNarrowProof.Selected.Operands as short
+use Rattle.cjc_check_proof.specs.NarrowProof.Selected.Operands.{IndexFits, NumbersFit}
+use Rattle.cjc_check_proof.specs.NarrowProof.Selected.Operands as short
 use Rattle.cjc_int_narrow.proofs.IntProofSaid as IntSaid
-use Rattle.cjc_int_narrow.specs.IntProof.Operands.{OperandsFit, names_nothing}
+use Rattle.cjc_int_narrow.specs.LowerIntProof.Operands.{OperandsFit, names_nothing}
 use Rattle.cjc_int_components.specs.Names.{NamesAs, NamesAsOneOf, as_one, no_name, nothing, outside, static_field}
 use Rattle.cjc_int_components.proofs.KeyKinds.{alone, lone, lone_written}
 use Rattle.cjc_int_components.proofs.Naming.{all_named}

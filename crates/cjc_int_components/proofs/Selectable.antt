@@ -4,48 +4,48 @@ use Rattle.std.proofs.Common.{◌∷◌, ◌++◌, length, map}
 use Rattle.std.specs.Prelude.{Option, Some, None, option_and_then, slice_get, nat_lt, if◌then◌else◌, ◌||◌}
 use Rattle.std.proofs.lemmas.Bool.{ltb-false, ltb-true, false_from_ne_true}
 use Rattle.std.proofs.lemmas.List.{length-append, length-map}
-use Rattle.cjc_check_proof.specs.Bytes.AccessFlags.{is_static}
-use Rattle.cjc_check_proof.specs.Bytes.Descriptor.{Parts}
-use Rattle.cjc_check_proof.specs.Bytes.Spots.{desc_of}
-use Rattle.cjc_check_proof.specs.Bytes.declared.fault.MemberId.{MemberId}
+use Rattle.cjc_int_narrow.specs.Bytes.AccessFlags.{is_static}
+use Rattle.cjc_int_narrow.specs.Bytes.Descriptor.{Parts}
+use Rattle.cjc_int_narrow.specs.Bytes.Spots.{desc_of}
+use Rattle.cjc_int_narrow.specs.Bytes.declared.fault.MemberId.{MemberId}
 use Rattle.cjc_check_proof.proofs.BytesBools.{or_left, or_right}
-use Rattle.cjc_ncode.specs.CardSemantics.Bytecode.Arguments.{width, widths}
-use Rattle.cjc_ncode.specs.Bytecode.Jvm as jvm
-use Rattle.cjc_ncode.specs.Bytecode.Rules.{too_many}
-use Rattle.cjc_ncode.specs.Bytecode.Unfit.{arguments, params_of}
-use Rattle.cjc_ncode.specs.Bytecode.declared.insn.JInsn.{JInsn}
-use Rattle.cjc_ncode.specs.Bytecode.declared.insn.JOp.{JOp}
-use Rattle.cjc_ncode.specs.Bytecode.declared.insn.JOp.TheVariants as jop
-use Rattle.cjc_ncode.specs.Bytecode.declared.method_code.MethodCode.{MethodCode}
-use Rattle.cjc_int_narrow.specs.Fixpoint.Tables.{HasRow}
-use Rattle.cjc_ncode.specs.Script.Sorts.{OfClass, Sort, Boolean, Byte, Short, Int, Reference, NoValue, Signature}
-use Rattle.cjc_ncode.specs.Script.Sorts.{result_by}
-use Rattle.cjc_ncode.specs.Script.Sorts.{signature_by, signature_of, sort_of}
-use Rattle.cjc_check_proof.specs.World.Classes.{Class, all_classes}
-use Rattle.cjc_ncode.specs.ClassFile.Code.{CodeTree}
-use Rattle.cjc_ncode.specs.ClassFile.declared.tree.ClassTree.{ClassTree}
-use Rattle.cjc_ncode.specs.ClassFile.declared.tree.MethodTree.{MethodTree}
-use Rattle.cjc_check_proof.specs.World.Files.{Files}
-use Rattle.cjc_int_narrow.specs.Types.Flow.{Body, body_of}
-use Rattle.cjc_int_narrow.specs.Types.Rules.{Breaks, clash, is_off, off}
-use Rattle.cjc_int_narrow.specs.Types.Tables.{Breach, IsLeastTable, IsMethodOf}
-use Rattle.cjc_int_narrow.specs.Types.TypeLaws.Places.{local_of}
-use Rattle.cjc_int_narrow.specs.Types.Steps.{stack_behind, takes}
-use Rattle.cjc_int_narrow.specs.Types.Types.{parts}
-use Rattle.cjc_int_narrow.specs.Types.declared.cell.Cell.{Cell}
-use Rattle.cjc_int_narrow.specs.Types.declared.state.Stack.{Stack}
-use Rattle.cjc_int_narrow.specs.Types.declared.state.Stack.TheVariants.{Cells, Clash}
-use Rattle.cjc_int_narrow.specs.Types.declared.state.State.{State}
+use Rattle.cjc_int_narrow.specs.CardSemantics.Bytecode.Arguments.{width, widths}
+use Rattle.cjc_int_narrow.specs.Bytecode.Jvm as jvm
+use Rattle.cjc_int_narrow.specs.Bytecode.Rules.{too_many}
+use Rattle.cjc_int_narrow.specs.Bytecode.Unfit.{arguments, params_of}
+use Rattle.cjc_int_narrow.specs.Bytecode.declared.insn.JInsn.{JInsn}
+use Rattle.cjc_int_narrow.specs.Bytecode.declared.insn.JOp.{JOp}
+use Rattle.cjc_int_narrow.specs.Bytecode.declared.insn.JOp.TheVariants as jop
+use Rattle.cjc_int_narrow.specs.Bytecode.declared.method_code.MethodCode.{MethodCode}
+use Rattle.cjc_check_proof.specs.Fixpoint.Tables.{HasRow}
+use Rattle.cjc_int_narrow.specs.Script.Sorts.{OfClass, Sort, Boolean, Byte, Short, Int, Reference, NoValue, Signature}
+use Rattle.cjc_int_narrow.specs.Script.Sorts.{result_by}
+use Rattle.cjc_int_narrow.specs.Script.Sorts.{signature_by, signature_of, sort_of}
+use Rattle.cjc_int_narrow.specs.World.Classes.{Class, all_classes}
+use Rattle.cjc_int_narrow.specs.ClassFile.Code.{CodeTree}
+use Rattle.cjc_int_narrow.specs.ClassFile.declared.tree.ClassTree.{ClassTree}
+use Rattle.cjc_int_narrow.specs.ClassFile.declared.tree.MethodTree.{MethodTree}
+use Rattle.cjc_int_narrow.specs.World.Files.{Files}
+use Rattle.cjc_check_proof.specs.Types.Flow.{Body, body_of}
+use Rattle.cjc_check_proof.specs.Types.Rules.{Breaks, clash, is_off, off}
+use Rattle.cjc_check_proof.specs.Types.Tables.{Breach, IsLeastTable, IsMethodOf}
+use Rattle.cjc_check_proof.specs.Types.TypeLaws.Places.{local_of}
+use Rattle.cjc_check_proof.specs.Types.Steps.{stack_behind, takes}
+use Rattle.cjc_check_proof.specs.Types.Types.{parts}
+use Rattle.cjc_check_proof.specs.Types.declared.cell.Cell.{Cell}
+use Rattle.cjc_check_proof.specs.Types.declared.state.Stack.{Stack}
+use Rattle.cjc_check_proof.specs.Types.declared.state.Stack.TheVariants.{Cells, Clash}
+use Rattle.cjc_check_proof.specs.Types.declared.state.State.{State}
 use Rattle.cjc_int_narrow.proofs.TypesAscending.{insns_ascend}
 use Rattle.cjc_int_narrow.proofs.TypesStanding.{local_there}
 use Rattle.cjc_ncode.specs.Written.{nargs_of, words_by}
-use Rattle.cjc_int_narrow.specs.Narrow.Written.Operands.{IsByte}
+use Rattle.cjc_int_narrow.specs.LowerNarrow.Written.Operands.{IsByte}
 use Rattle.cjc_check_proof.proofs.NarrowProofCuts.{decoded}
 use Rattle.cjc_check_proof.proofs.NarrowProofWords.{call_short, params_counted}
-use Rattle.cjc_check_proof.specs.LowerNarrowProof.Selected.Keeps.{IsSpelt}
-use Rattle.cjc_int_narrow.specs.IntMode.Room.{IsRoom, high_stack}
-use Rattle.cjc_int_narrow.specs.IntMode.Written.{int_frame, params_by, stack_words}
-use Rattle.cjc_int_narrow.specs.IntMode.declared.modes.Mode.TheVariants as modes
+use Rattle.cjc_check_proof.specs.NarrowProof.Selected.Keeps.{IsSpelt}
+use Rattle.cjc_int_narrow.specs.LowerIntMode.Room.{IsRoom, high_stack}
+use Rattle.cjc_int_narrow.specs.LowerIntMode.Written.{int_frame, params_by, stack_words}
+use Rattle.cjc_int_narrow.specs.LowerIntMode.declared.modes.Mode.TheVariants as modes
 use Rattle.cjc_int_narrow.proofs.Whole.{few_enough}
 use Rattle.cjc_int_narrow.specs.Select.{IsSelectable, OperandsStand}
 

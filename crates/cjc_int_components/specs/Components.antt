@@ -2,13 +2,13 @@
 -- of each by its mode.
 use Rattle.std.specs.Prelude.{Bool, false, ◌||◌, Option, Some, None, is_some}
 use Rattle.std.specs.List.{list_any}
-use Rattle.cjc_ncode.specs.CapRead.declared.tree.CapTree.{CapTree}
-use Rattle.cjc_ncode.specs.CapRead.declared.tree.Header.{Header}
-use Rattle.cjc_int_narrow.specs.JvmSemantics.Linked.{Method}
-use Rattle.cjc_int_narrow.specs.JvmSemantics.OnePackage.{method_at}
-use Rattle.cjc_check_proof.specs.Components.Components.{components_of, header, header_flags, uses_int}
-use Rattle.cjc_check_proof.specs.Components.Exports.{export}
-use Rattle.cjc_check_proof.specs.Components.Package.{Package, has_applets, world}
+use Rattle.cjc_check_proof.specs.CapRead.declared.tree.CapTree.{CapTree}
+use Rattle.cjc_check_proof.specs.CapRead.declared.tree.Header.{Header}
+use Rattle.cjc_check_proof.specs.JvmSemantics.Linked.{Method}
+use Rattle.cjc_check_proof.specs.JvmSemantics.OnePackage.{method_at}
+use Rattle.cjc_check_proof.specs.LowerComponents.Components.{components_of, header, header_flags, uses_int}
+use Rattle.cjc_check_proof.specs.LowerComponents.Exports.{export}
+use Rattle.cjc_check_proof.specs.LowerComponents.Package.{Package, has_applets, world}
 use Rattle.cjc_int_components.specs.Modes.{Tables, is_int}
 
 -- a method of a class file is in int mode; one that is added to its class is not

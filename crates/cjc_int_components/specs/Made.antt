@@ -1,20 +1,20 @@
 -- How the methods of a package come to their code, some of them in int mode.
 use Rattle.std.specs.Prelude.{◌≡◌, ℕ, ◌<◌, List, length, slice_get, Option, Some}
-use Rattle.cjc_check_proof.specs.Bytes.declared.fault.MemberId.{MemberId}
-use Rattle.cjc_ncode.specs.ClassFile.Code.{CodeTree}
-use Rattle.cjc_ncode.specs.ClassFile.declared.tree.ClassTree.{ClassTree}
-use Rattle.cjc_ncode.specs.ClassFile.declared.tree.MethodTree.{MethodTree}
-use Rattle.cjc_check_proof.specs.World.Files.{Files}
-use Rattle.cjc_ncode.specs.Bytecode.declared.method_code.MethodCode.{MethodCode}
-use Rattle.cjc_int_narrow.specs.Types.Flow.{body_of}
-use Rattle.cjc_int_narrow.specs.Types.Tables.{IsLeastTable, IsMethodOf}
-use Rattle.cjc_int_narrow.specs.Types.declared.state.State.{State}
-use Rattle.cjc_int_narrow.specs.Intervals.Frames.{RangeState}
+use Rattle.cjc_int_narrow.specs.Bytes.declared.fault.MemberId.{MemberId}
+use Rattle.cjc_int_narrow.specs.ClassFile.Code.{CodeTree}
+use Rattle.cjc_int_narrow.specs.ClassFile.declared.tree.ClassTree.{ClassTree}
+use Rattle.cjc_int_narrow.specs.ClassFile.declared.tree.MethodTree.{MethodTree}
+use Rattle.cjc_int_narrow.specs.World.Files.{Files}
+use Rattle.cjc_int_narrow.specs.Bytecode.declared.method_code.MethodCode.{MethodCode}
+use Rattle.cjc_check_proof.specs.Types.Flow.{body_of}
+use Rattle.cjc_check_proof.specs.Types.Tables.{IsLeastTable, IsMethodOf}
+use Rattle.cjc_check_proof.specs.Types.declared.state.State.{State}
+use Rattle.cjc_check_proof.specs.Intervals.Frames.{RangeState}
 use Rattle.cjc_ncode.specs.Lowering.Naming.{Naming}
-use Rattle.cjc_int_narrow.specs.Narrow.Rows.Resolved.{resolution}
-use Rattle.cjc_check_proof.specs.Emit.Emitted.{CanBeWritten, placed_at}
-use Rattle.cjc_check_proof.specs.Components.Package.{LaidMethod}
-use Rattle.cjc_int_narrow.specs.IntMode.Written.{written_in_int_mode}
+use Rattle.cjc_int_narrow.specs.LowerNarrow.Rows.Resolved.{resolution}
+use Rattle.cjc_check_proof.specs.LowerEmit.Emitted.{CanBeWritten, placed_at}
+use Rattle.cjc_check_proof.specs.LowerComponents.Package.{LaidMethod}
+use Rattle.cjc_int_narrow.specs.LowerIntMode.Written.{written_in_int_mode}
 use Rattle.cjc_check_proof.specs.Made.{IsMade}
 
 -- A method that is not in int mode is made as in a package without int mode. The code of any other is what is written

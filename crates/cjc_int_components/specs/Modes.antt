@@ -1,25 +1,25 @@
 -- The modes of the methods of a package, by their least tables.
 use Rattle.std.specs.Prelude.{◌≡◌, Bool, true, false, List, Option, Some, None}
 use Rattle.std.specs.List.{Contains}
-use Rattle.cjc_ncode.specs.ClassFile.Code.{CodeTree}
-use Rattle.cjc_ncode.specs.ClassFile.declared.tree.ClassTree.{ClassTree}
-use Rattle.cjc_ncode.specs.ClassFile.declared.tree.MethodTree.{MethodTree}
-use Rattle.cjc_check_proof.specs.World.Classes.{all_classes}
-use Rattle.cjc_check_proof.specs.World.Files.{Files}
-use Rattle.cjc_ncode.specs.Bytecode.PackageCodes.{all_codes}
-use Rattle.cjc_ncode.specs.Bytecode.declared.method_code.MethodCode.{MethodCode}
-use Rattle.cjc_int_narrow.specs.Types.Flow.{body_of}
-use Rattle.cjc_int_narrow.specs.Types.Tables.{IsLeastTable, IsMethodOf}
-use Rattle.cjc_int_narrow.specs.Types.declared.state.State.{State}
-use Rattle.cjc_int_narrow.specs.Intervals.Frames.{RangeState}
-use Rattle.cjc_int_narrow.specs.Intervals.Tables.{IsLeastRanges}
-use Rattle.cjc_int_narrow.specs.JvmSemantics.Linked.{Method}
-use Rattle.cjc_int_narrow.specs.JvmSemantics.OnePackage.{method_by}
-use Rattle.cjc_int_narrow.specs.Narrow.Rows.Resolved.{constant_named}
-use Rattle.cjc_check_proof.specs.LowerTokens.Members.{is_initialiser}
-use Rattle.cjc_int_narrow.specs.IntMode.Modes.{IsModeOf}
-use Rattle.cjc_int_narrow.specs.IntMode.declared.modes.Mode.{Mode}
-use Rattle.cjc_int_narrow.specs.IntMode.declared.modes.Mode.TheVariants as modes
+use Rattle.cjc_int_narrow.specs.ClassFile.Code.{CodeTree}
+use Rattle.cjc_int_narrow.specs.ClassFile.declared.tree.ClassTree.{ClassTree}
+use Rattle.cjc_int_narrow.specs.ClassFile.declared.tree.MethodTree.{MethodTree}
+use Rattle.cjc_int_narrow.specs.World.Classes.{all_classes}
+use Rattle.cjc_int_narrow.specs.World.Files.{Files}
+use Rattle.cjc_int_narrow.specs.Bytecode.PackageCodes.{all_codes}
+use Rattle.cjc_int_narrow.specs.Bytecode.declared.method_code.MethodCode.{MethodCode}
+use Rattle.cjc_check_proof.specs.Types.Flow.{body_of}
+use Rattle.cjc_check_proof.specs.Types.Tables.{IsLeastTable, IsMethodOf}
+use Rattle.cjc_check_proof.specs.Types.declared.state.State.{State}
+use Rattle.cjc_check_proof.specs.Intervals.Frames.{RangeState}
+use Rattle.cjc_check_proof.specs.Intervals.Tables.{IsLeastRanges}
+use Rattle.cjc_check_proof.specs.JvmSemantics.Linked.{Method}
+use Rattle.cjc_check_proof.specs.JvmSemantics.OnePackage.{method_by}
+use Rattle.cjc_int_narrow.specs.LowerNarrow.Rows.Resolved.{constant_named}
+use Rattle.cjc_check_proof.specs.Tokens.Members.{is_initialiser}
+use Rattle.cjc_int_narrow.specs.LowerIntMode.Modes.{IsModeOf}
+use Rattle.cjc_int_narrow.specs.LowerIntMode.declared.modes.Mode.{Mode}
+use Rattle.cjc_int_narrow.specs.LowerIntMode.declared.modes.Mode.TheVariants as modes
 
 -- What is told of a method: the least table of its types, that of its intervals, and its mode.
 pub record Tables : Type 0 where

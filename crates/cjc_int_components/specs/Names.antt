@@ -1,16 +1,16 @@
 -- What the instructions that are written in int mode name: what is named outside int mode.
 use Rattle.std.specs.Prelude.{◌≡◌, ◌<◌, ℕ, List, Some, Bool, true, false, slice_get}
-use Rattle.cjc_check_proof.specs.Bytes.declared.fault.MemberId.{MemberId}
-use Rattle.cjc_ncode.specs.Bytecode.Jvm as jvm
-use Rattle.cjc_ncode.specs.Bytecode.declared.insn.JOp.{JOp}
-use Rattle.cjc_ncode.specs.Bytecode.declared.insn.JOp.TheVariants as jop
-use Rattle.cjc_ncode.specs.Script.Sorts.{field_sort}
+use Rattle.cjc_int_narrow.specs.Bytes.declared.fault.MemberId.{MemberId}
+use Rattle.cjc_int_narrow.specs.Bytecode.Jvm as jvm
+use Rattle.cjc_int_narrow.specs.Bytecode.declared.insn.JOp.{JOp}
+use Rattle.cjc_int_narrow.specs.Bytecode.declared.insn.JOp.TheVariants as jop
+use Rattle.cjc_int_narrow.specs.Script.Sorts.{field_sort}
 use Rattle.cjc_ncode.specs.IntCode.IntCode.{Reached}
 use Rattle.cjc_ncode.specs.Written.{Resolution, nargs_of, static_access, written}
 use Rattle.cjc_ncode.specs.declared.narrow.NInsn.{NInsn}
 use Rattle.cjc_ncode.specs.declared.narrow.NInsn.TheVariants as insns
 use Rattle.cjc_ncode.specs.declared.narrow.PoolKey.TheVariants as keys
-use Rattle.cjc_int_narrow.specs.IntProof.Operands.{names_nothing}
+use Rattle.cjc_int_narrow.specs.LowerIntProof.Operands.{names_nothing}
 
 -- an instruction of a class file that names a class or a member
 abbrev pub has_name : JOp → Bool

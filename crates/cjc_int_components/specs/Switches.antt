@@ -1,8 +1,8 @@
 -- The switches of class files whose numbers have 32 bits.
 use Rattle.std.specs.Prelude.{length}
-use Rattle.cjc_ncode.specs.Bytecode.declared.insn.JOp.{JOp}
-use Rattle.cjc_ncode.specs.Bytecode.declared.insn.JOp.TheVariants as jop
-use Rattle.cjc_int_narrow.specs.IntProof.Operands.{MatchesRise, TableFits}
+use Rattle.cjc_int_narrow.specs.Bytecode.declared.insn.JOp.{JOp}
+use Rattle.cjc_int_narrow.specs.Bytecode.declared.insn.JOp.TheVariants as jop
+use Rattle.cjc_int_narrow.specs.LowerIntProof.Operands.{MatchesRise, TableFits}
 
 -- A table has a match, and four bytes say its low and its high one; four bytes say each match of a lookup, and they
 -- ascend.

@@ -1,26 +1,26 @@
 -- What is written for a package some of whose methods are in int mode: the narrow code of each by its mode, at the
 -- least choice of wide jumps.
 use Rattle.std.specs.Prelude.{◌≡◌, ℕ, List, map, slice_get, Option, Some, None}
-use Rattle.cjc_check_proof.specs.Bytes.declared.fault.MemberId.{MemberId}
-use Rattle.cjc_check_proof.specs.World.Classes.{all_classes, class_at}
-use Rattle.cjc_check_proof.specs.World.Files.{Files}
-use Rattle.cjc_check_proof.specs.World.Order.{method_order}
-use Rattle.cjc_check_proof.specs.World.declared.found.Found.{Found}
-use Rattle.cjc_check_proof.specs.Clinit.Image.{IsImage}
-use Rattle.cjc_ncode.specs.Bytecode.declared.method_code.MethodCode.{MethodCode}
-use Rattle.cjc_int_narrow.specs.JvmSemantics.Linked.{Method}
-use Rattle.cjc_int_narrow.specs.JvmSemantics.OnePackage.{method_at}
+use Rattle.cjc_int_narrow.specs.Bytes.declared.fault.MemberId.{MemberId}
+use Rattle.cjc_int_narrow.specs.World.Classes.{all_classes, class_at}
+use Rattle.cjc_int_narrow.specs.World.Files.{Files}
+use Rattle.cjc_int_narrow.specs.World.Order.{method_order}
+use Rattle.cjc_int_narrow.specs.World.declared.found.Found.{Found}
+use Rattle.cjc_check_proof.specs.LowerClinit.Image.{IsImage}
+use Rattle.cjc_int_narrow.specs.Bytecode.declared.method_code.MethodCode.{MethodCode}
+use Rattle.cjc_check_proof.specs.JvmSemantics.Linked.{Method}
+use Rattle.cjc_check_proof.specs.JvmSemantics.OnePackage.{method_at}
 use Rattle.cjc_ncode.specs.declared.narrow.NMethod.{NMethod}
-use Rattle.cjc_int_narrow.specs.Narrow.Rows.Package.{code_of, flags_of, read_of, tree_of}
-use Rattle.cjc_int_narrow.specs.Narrow.Rows.Resolved.{method_found, resolution}
-use Rattle.cjc_int_narrow.specs.Narrow.Rows.Selected.{near_fields}
-use Rattle.cjc_int_narrow.specs.Layout.Legal.{IsLeast}
-use Rattle.cjc_check_proof.specs.List.Listed.{ListTree}
-use Rattle.cjc_check_proof.specs.Components.Package.{LaidMethod, Package, pool}
-use Rattle.cjc_check_proof.specs.Components.Written.{added_words, is_abstract_at, no_code}
-use Rattle.cjc_int_narrow.specs.IntMode.Written.{written_in_int_mode}
-use Rattle.cjc_int_narrow.specs.IntMode.declared.modes.Mode.{Mode}
-use Rattle.cjc_int_narrow.specs.IntMode.declared.modes.Mode.TheVariants as modes
+use Rattle.cjc_int_narrow.specs.LowerNarrow.Rows.Package.{code_of, flags_of, read_of, tree_of}
+use Rattle.cjc_int_narrow.specs.LowerNarrow.Rows.Resolved.{method_found, resolution}
+use Rattle.cjc_int_narrow.specs.LowerNarrow.Rows.Selected.{near_fields}
+use Rattle.cjc_check_proof.specs.Layout.Legal.{IsLeast}
+use Rattle.cjc_check_proof.specs.LowerList.Listed.{ListTree}
+use Rattle.cjc_check_proof.specs.LowerComponents.Package.{LaidMethod, Package, pool}
+use Rattle.cjc_check_proof.specs.LowerComponents.Written.{added_words, is_abstract_at, no_code}
+use Rattle.cjc_int_narrow.specs.LowerIntMode.Written.{written_in_int_mode}
+use Rattle.cjc_int_narrow.specs.LowerIntMode.declared.modes.Mode.{Mode}
+use Rattle.cjc_int_narrow.specs.LowerIntMode.declared.modes.Mode.TheVariants as modes
 use Rattle.cjc_int_components.specs.Modes.{Tables}
 
 -- ---- one method

@@ -1,11 +1,11 @@
 //! Methods in int mode made by hand, with their bytes, and one that has too many locals. Laws alone: nothing here runs.
 ghost use Rattle.std.specs.Prelude.{◌≡◌, ◌∷◌, ◌≤◌, [], ℕ, List, Option, false, replicate};
-ghost use Rattle.cjc_check_proof.specs.Emit.Emitted.{emitted_bytes};
+ghost use Rattle.cjc_check_proof.specs.LowerEmit.Emitted.{emitted_bytes};
 ghost use Rattle.cjc_ncode.specs.Lowering.Worked.{naming};
-ghost use Rattle.cjc_int_narrow.specs.Types.Flow.{Body};
-ghost use Rattle.cjc_int_narrow.specs.Types.declared.state.State.{State};
-ghost use Rattle.cjc_int_narrow.specs.IntMode.Room.{LacksRoom};
-ghost use Rattle.cjc_int_narrow.specs.IntMode.declared.modes.Mode.TheVariants as modes;
+ghost use Rattle.cjc_check_proof.specs.Types.Flow.{Body};
+ghost use Rattle.cjc_check_proof.specs.Types.declared.state.State.{State};
+ghost use Rattle.cjc_int_narrow.specs.LowerIntMode.Room.{LacksRoom};
+ghost use Rattle.cjc_int_narrow.specs.LowerIntMode.declared.modes.Mode.TheVariants as modes;
 ghost use Rattle.cjc_int_components.specs.Worked.{array_loop, comparison, element_read};
 
 /// The bytes of three methods made by hand, where no jump is wide: whether a short and 1 are less than 10, an element

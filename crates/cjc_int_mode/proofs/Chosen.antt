@@ -1,9 +1,9 @@
 -- Which mode a method is in, by what was found of it.
 use Rattle.std.proofs.Common.{◌≡◌, ℕ, Bool, true, false, List, Option, Some, None, refl, sym, ◌∙◌}
-use Rattle.cjc_flow.specs.Bytes.declared.breaks.BrokenAt.{BrokenAt}
-use Rattle.cjc_flow.specs.Types.declared.state.State.{State}
-use Rattle.cjc_flow.specs.Types.Flow.{Body}
-use Rattle.cjc_flow.specs.Intervals.Frames.{RangeState}
+use Rattle.cjc_subset.specs.Bytes.declared.breaks.BrokenAt.{BrokenAt}
+use Rattle.cjc_flow.specs.LowerTypes.declared.state.State.{State}
+use Rattle.cjc_flow.specs.LowerTypes.Flow.{Body}
+use Rattle.cjc_flow.specs.LowerIntervals.Frames.{RangeState}
 use Rattle.cjc_int_mode.specs.declared.modes.Mode.TheVariants as modes
 use Rattle.cjc_flow.specs.declared.tests.passing.Tested.TheVariants as kinds
 use Rattle.cjc_flow.specs.Tests.Breaches.{IsFound, is_tested}

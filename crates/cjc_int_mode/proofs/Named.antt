@@ -1,13 +1,13 @@
 -- What a method names, by its code in the package.
 use Rattle.std.proofs.Common.{◌≡◌, Bool, true, false, List, [], ◌∷◌, Option, refl, ap, ◌∙◌}
 use Rattle.std.specs.Prelude.{◌||◌}
-use Rattle.cjc_subset.specs.ClassFile.Code.{CodeTree}
-use Rattle.cjc_subset.specs.ClassFile.declared.tree.ClassTree.{ClassTree}
-use Rattle.cjc_subset.specs.ClassFile.declared.tree.MethodTree.{MethodTree}
-use Rattle.cjc_subset.specs.Bytecode.declared.method_code.MethodCode.{MethodCode}
-use Rattle.cjc_subset.specs.World.Files.{Files}
-use Rattle.cjc_flow.specs.Types.Flow.{body_of}
-use Rattle.cjc_flow.specs.Types.Tables.{IsMethodOf}
+use Rattle.cjc_flow.specs.ClassFile.Code.{CodeTree}
+use Rattle.cjc_flow.specs.ClassFile.declared.tree.ClassTree.{ClassTree}
+use Rattle.cjc_flow.specs.ClassFile.declared.tree.MethodTree.{MethodTree}
+use Rattle.cjc_flow.specs.Bytecode.declared.method_code.MethodCode.{MethodCode}
+use Rattle.cjc_flow.specs.World.Files.{Files}
+use Rattle.cjc_flow.specs.LowerTypes.Flow.{body_of}
+use Rattle.cjc_flow.specs.LowerTypes.Tables.{IsMethodOf}
 use Rattle.cjc_subset.specs.Ints.{any_works_on_int, code_works_on_int, method_there, method_works_on_int}
 use Rattle.cjc_int_mode.specs.Modes.{names_int}
 

@@ -5,12 +5,12 @@ use Rattle.std.specs.Prelude.{◌||◌, option_and_then}
 use Rattle.std.specs.List.{list_any}
 use Rattle.cjc_ncode.specs.Written.{reached}
 use Rattle.cjc_ncode.specs.IntCode.IntCode.{scratch_pairs_of}
-use Rattle.cjc_flow.specs.Fixpoint.Tables.{HasRow}
-use Rattle.cjc_subset.specs.Bytecode.declared.insn.JInsn.{JInsn}
-use Rattle.cjc_flow.specs.Types.declared.cell.Cell.{Cell}
-use Rattle.cjc_flow.specs.Types.declared.cell.Cell.TheVariants.{Number, Refs, Unusable}
-use Rattle.cjc_flow.specs.Types.declared.state.State.{State}
-use Rattle.cjc_flow.specs.Types.Search.{cells_of}
+use Rattle.cjc_flow.specs.LowerFixpoint.Tables.{HasRow}
+use Rattle.cjc_flow.specs.Bytecode.declared.insn.JInsn.{JInsn}
+use Rattle.cjc_flow.specs.LowerTypes.declared.cell.Cell.{Cell}
+use Rattle.cjc_flow.specs.LowerTypes.declared.cell.Cell.TheVariants.{Number, Refs, Unusable}
+use Rattle.cjc_flow.specs.LowerTypes.declared.state.State.{State}
+use Rattle.cjc_flow.specs.LowerTypes.Search.{cells_of}
 use Rattle.cjc_int_mode.specs.Written.{most_pairs}
 use Rattle.cjc_int_mode.specs.Working.Pairs.{is_unusable, pairs_from}
 

@@ -4,12 +4,12 @@ use Rattle.std.proofs.Common.{arith, suc, ◌++◌, cond, Some, None}
 use Rattle.std.specs.Prelude.{◌||◌, ◌&&◌, if◌then◌else◌}
 use Rattle.std.specs.List.{list_any}
 use Rattle.cjc_subset.proofs.BytesLists.{length_mapped}
-use Rattle.cjc_flow.specs.Bytes.AccessFlags.{is_static}
-use Rattle.cjc_flow.specs.Bytes.Descriptor.{Part, Parts}
-use Rattle.cjc_ncode.specs.Script.Sorts.{Sort, Reference, OfClass, sort_of, result_by, signature_by, signature_of}
-use Rattle.cjc_ncode.specs.CardSemantics.Bytecode.Arguments.{width, widths}
+use Rattle.cjc_subset.specs.Bytes.AccessFlags.{is_static}
+use Rattle.cjc_subset.specs.Bytes.Descriptor.{Part, Parts}
+use Rattle.cjc_ncode.specs.LowerScript.Sorts.{Sort, Reference, OfClass, sort_of, result_by, signature_by, signature_of}
+use Rattle.cjc_ncode.specs.LowerCardSemantics.Bytecode.Arguments.{width, widths}
 use Rattle.cjc_ncode.specs.IntCode.IntCode.{is_short, is_by_scratch, scratch_pairs_by}
-use Rattle.cjc_flow.specs.Types.Flow.{Body}
+use Rattle.cjc_flow.specs.LowerTypes.Flow.{Body}
 use Rattle.cjc_int_mode.specs.Written.{argument_words, params_by}
 use Rattle.cjc_int_mode.specs.Working.Scratch.{has_short_before}
 

@@ -2,9 +2,9 @@
 use Rattle.std.proofs.Common.{◌≡◌, ℕ, ◌+◌, max, List, [], ◌∷◌, Option, Some, None, refl, ap}
 use Rattle.cjc_ncode.specs.Written.{reached}
 use Rattle.cjc_ncode.specs.IntCode.IntCode.{scratch_pairs, scratch_pairs_of}
-use Rattle.cjc_subset.specs.Bytecode.declared.insn.JInsn.{JInsn}
-use Rattle.cjc_flow.specs.Types.declared.state.State.{State}
-use Rattle.cjc_flow.specs.Intervals.Frames.{RangeState}
+use Rattle.cjc_flow.specs.Bytecode.declared.insn.JInsn.{JInsn}
+use Rattle.cjc_flow.specs.LowerTypes.declared.state.State.{State}
+use Rattle.cjc_flow.specs.LowerIntervals.Frames.{RangeState}
 use Rattle.cjc_int_mode.specs.Written.{reached_from, most_pairs}
 
 pub pairs_same : (ranges : List (Option RangeState)) (place : ℕ) (insns : List JInsn) (types : List (Option State))

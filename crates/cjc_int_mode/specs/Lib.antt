@@ -3,5 +3,14 @@ pub mod Written
 pub mod Room
 pub mod Working
 -- Definitions of lower crates, for those above.
-pub mod LowerIntervals
-pub mod LowerFlow
+pub mod Bytes
+pub mod Range
+pub mod Fixpoint
+pub mod ClassFile
+pub mod Bytecode
+pub mod Script
+pub mod CapRead
+pub mod World
+pub mod Intervals
+pub mod Flow
+pub mod CardSemantics

@@ -2,10 +2,10 @@
 -- one word that its low half is.
 use Rattle.std.specs.Prelude.{◌≡◌, ℕ, Bool, true, not, ◌||◌, List, Option}
 use Rattle.std.specs.List.{list_any}
-use Rattle.cjc_flow.specs.Types.declared.state.State.{State}
-use Rattle.cjc_flow.specs.Types.Flow.{Body}
-use Rattle.cjc_flow.specs.Intervals.Frames.{RangeState}
-use Rattle.cjc_flow.specs.Intervals.Tables.{Breach}
+use Rattle.cjc_flow.specs.LowerTypes.declared.state.State.{State}
+use Rattle.cjc_flow.specs.LowerTypes.Flow.{Body}
+use Rattle.cjc_flow.specs.LowerIntervals.Frames.{RangeState}
+use Rattle.cjc_flow.specs.LowerIntervals.Tables.{Breach}
 use Rattle.cjc_flow.specs.Tests.Breaches.{is_of_low_word}
 use Rattle.cjc_subset.specs.Ints.{works_on_int}
 use Rattle.cjc_subset.specs.Types.{is_int_desc}

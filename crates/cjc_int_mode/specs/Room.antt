@@ -1,10 +1,10 @@
 -- Rule 417: what is written for a method has no room.
 use Rattle.std.specs.Prelude.{◌≡◌, ◌<◌, ℕ, ◌+◌, Bool, true, false, List, slice_get, Option, Some}
-use Rattle.cjc_flow.specs.Fixpoint.Tables.{HasRow}
-use Rattle.cjc_flow.specs.Types.declared.cell.Cell.TheVariants.{Unusable}
-use Rattle.cjc_flow.specs.Types.declared.state.State.{State}
-use Rattle.cjc_flow.specs.Types.Flow.{Body}
-use Rattle.cjc_flow.specs.Types.Search.{cells_of}
+use Rattle.cjc_flow.specs.LowerFixpoint.Tables.{HasRow}
+use Rattle.cjc_flow.specs.LowerTypes.declared.cell.Cell.TheVariants.{Unusable}
+use Rattle.cjc_flow.specs.LowerTypes.declared.state.State.{State}
+use Rattle.cjc_flow.specs.LowerTypes.Flow.{Body}
+use Rattle.cjc_flow.specs.LowerTypes.Search.{cells_of}
 use Rattle.cjc_int_mode.specs.declared.modes.Mode.{Mode}
 use Rattle.cjc_int_mode.specs.declared.modes.Mode.TheVariants as modes
 use Rattle.cjc_int_mode.specs.Written.{argument_words, local_words, stack_words}

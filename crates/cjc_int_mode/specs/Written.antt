@@ -2,24 +2,24 @@
 -- what the tables say before each instruction that they reach.
 use Rattle.std.specs.Prelude.{ℕ, ◌+◌, ◌*◌, max, List, [], ◌∷◌, ◌++◌, map, get_or, Option, Some, None}
 use Rattle.std.specs.Prelude.{if◌then◌else◌}
-use Rattle.cjc_flow.specs.Bytes.AccessFlags.{is_static}
-use Rattle.cjc_subset.specs.ClassFile.Code.{CodeTree}
-use Rattle.cjc_subset.specs.Bytecode.declared.insn.JInsn.{JInsn}
-use Rattle.cjc_subset.specs.Bytecode.declared.insn.JOp.{JOp}
-use Rattle.cjc_subset.specs.Bytecode.declared.insn.JOp.TheVariants as jop
-use Rattle.cjc_ncode.specs.Script.Sorts.{Sort, Reference, OfClass, Signature, signature_of}
+use Rattle.cjc_subset.specs.Bytes.AccessFlags.{is_static}
+use Rattle.cjc_flow.specs.ClassFile.Code.{CodeTree}
+use Rattle.cjc_flow.specs.Bytecode.declared.insn.JInsn.{JInsn}
+use Rattle.cjc_flow.specs.Bytecode.declared.insn.JOp.{JOp}
+use Rattle.cjc_flow.specs.Bytecode.declared.insn.JOp.TheVariants as jop
+use Rattle.cjc_ncode.specs.LowerScript.Sorts.{Sort, Reference, OfClass, Signature, signature_of}
 use Rattle.cjc_ncode.specs.declared.narrow.NMethod.{NMethod}
 use Rattle.cjc_ncode.specs.Written.{Resolution, reached}
 use Rattle.cjc_ncode.specs.IntCode.IntCode.{Before, Reached, Frame, nargs, int_method, scratch_pairs_of}
-use Rattle.cjc_flow.specs.Types.declared.state.State.{State}
-use Rattle.cjc_flow.specs.Types.Flow.{Body}
-use Rattle.cjc_flow.specs.Types.Rules.{is_reference}
-use Rattle.cjc_flow.specs.Types.Search.{cells_of}
-use Rattle.cjc_flow.specs.Intervals.Bounds.{index_range}
-use Rattle.cjc_flow.specs.Intervals.Frames.{RangeState, spans_of}
-use Rattle.cjc_flow.specs.Intervals.Steps.{operand}
+use Rattle.cjc_flow.specs.LowerTypes.declared.state.State.{State}
+use Rattle.cjc_flow.specs.LowerTypes.Flow.{Body}
+use Rattle.cjc_flow.specs.LowerTypes.Rules.{is_reference}
+use Rattle.cjc_flow.specs.LowerTypes.Search.{cells_of}
+use Rattle.cjc_flow.specs.LowerIntervals.Bounds.{index_range}
+use Rattle.cjc_flow.specs.LowerIntervals.Frames.{RangeState, spans_of}
+use Rattle.cjc_flow.specs.LowerIntervals.Steps.{operand}
 use Rattle.cjc_flow.specs.Tests.Working.Search.{lies_in}
-use Rattle.cjc_subset.specs.Range.Span.{Span}
+use Rattle.cjc_flow.specs.Range.Span.{Span}
 
 -- ---- the method
 

@@ -3,10 +3,10 @@
 //! class file has, is taken for want of it.
 
 ghost use Rattle.std.specs.Prelude.{◌≡◌, ◌+◌, ◌<◌, ◌≤◌, ◌^◌, ◌&&◌, ℕ, List, map, false, if◌then◌else◌, IfOk};
-ghost use Rattle.cjc_flow.specs.Bytes.Spots.{desc_of};
-ghost use Rattle.cjc_flow.specs.Types.Flow.{Body};
-ghost use Rattle.cjc_ncode.specs.Script.Sorts.{signature_by, signature_of, sort_by, sort_of};
-ghost use Rattle.cjc_ncode.specs.CardSemantics.Bytecode.Arguments.{width, widths};
+ghost use Rattle.cjc_subset.specs.Bytes.Spots.{desc_of};
+ghost use Rattle.cjc_flow.specs.LowerTypes.Flow.{Body};
+ghost use Rattle.cjc_ncode.specs.LowerScript.Sorts.{signature_by, signature_of, sort_by, sort_of};
+ghost use Rattle.cjc_ncode.specs.LowerCardSemantics.Bytecode.Arguments.{width, widths};
 ghost use Rattle.cjc_ncode.specs.IntCode.IntCode.{is_short, scratch_pairs_by, scratch_pairs_of};
 ghost use Rattle.cjc_int_mode.specs.Written.{argument_words, params_by};
 ghost use Rattle.cjc_int_mode.specs.Working.Scratch.{has_short_before};

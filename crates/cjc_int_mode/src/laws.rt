@@ -1,16 +1,16 @@
 //! Laws of modes. Laws alone: nothing here runs.
 
 ghost use Rattle.std.specs.Prelude.{◌≡◌, Bool, List, Option, false};
-ghost use Rattle.cjc_subset.specs.ClassFile.Code.{CodeTree};
-ghost use Rattle.cjc_subset.specs.ClassFile.declared.tree.ClassTree.{ClassTree};
-ghost use Rattle.cjc_subset.specs.ClassFile.declared.tree.MethodTree.{MethodTree};
-ghost use Rattle.cjc_subset.specs.Bytecode.declared.method_code.MethodCode.{MethodCode as Instructions};
-ghost use Rattle.cjc_subset.specs.World.Files.{Files};
-ghost use Rattle.cjc_flow.specs.Types.declared.state.State.{State};
-ghost use Rattle.cjc_flow.specs.Types.Flow.{Body, body_of};
-ghost use Rattle.cjc_flow.specs.Types.Tables.{IsMethodOf};
-ghost use Rattle.cjc_flow.specs.Intervals.Frames.{RangeState};
-ghost use Rattle.cjc_flow.specs.Intervals.Tables.{Passes};
+ghost use Rattle.cjc_flow.specs.ClassFile.Code.{CodeTree};
+ghost use Rattle.cjc_flow.specs.ClassFile.declared.tree.ClassTree.{ClassTree};
+ghost use Rattle.cjc_flow.specs.ClassFile.declared.tree.MethodTree.{MethodTree};
+ghost use Rattle.cjc_flow.specs.Bytecode.declared.method_code.MethodCode.{MethodCode as Instructions};
+ghost use Rattle.cjc_flow.specs.World.Files.{Files};
+ghost use Rattle.cjc_flow.specs.LowerTypes.declared.state.State.{State};
+ghost use Rattle.cjc_flow.specs.LowerTypes.Flow.{Body, body_of};
+ghost use Rattle.cjc_flow.specs.LowerTypes.Tables.{IsMethodOf};
+ghost use Rattle.cjc_flow.specs.LowerIntervals.Frames.{RangeState};
+ghost use Rattle.cjc_flow.specs.LowerIntervals.Tables.{Passes};
 ghost use Rattle.cjc_subset.specs.Ints.{code_works_on_int};
 ghost use Rattle.cjc_ncode.specs.Written.{Resolution};
 ghost use Rattle.cjc_int_mode.specs.declared.modes.Mode.{Mode as Modes};

@@ -1,13 +1,13 @@
 //! The first number of a method that may not lie where the rules that bind its mode need it.
 
 ghost use Rattle.std.specs.Prelude.{◌≡◌, ℕ, Option, ℤ, IfOk};
-ghost use Rattle.cjc_flow.specs.Bytes.declared.fault.MemberId.{MemberId as Field};
-ghost use Rattle.cjc_subset.specs.ClassFile.Code.{CodeTree};
-ghost use Rattle.cjc_subset.specs.ClassFile.declared.tree.ClassTree.{ClassTree as ClassFile};
-ghost use Rattle.cjc_subset.specs.ClassFile.declared.tree.MethodTree.{MethodTree as ClassMethod};
-ghost use Rattle.cjc_subset.specs.World.Classes.{all_classes};
-ghost use Rattle.cjc_flow.specs.Types.Flow.{body_of};
-ghost use Rattle.cjc_flow.specs.Types.Tables.{IsMethodOf, IsOfPackage, IsTypeTable, rows_of};
+ghost use Rattle.cjc_subset.specs.Bytes.declared.fault.MemberId.{MemberId as Field};
+ghost use Rattle.cjc_flow.specs.ClassFile.Code.{CodeTree};
+ghost use Rattle.cjc_flow.specs.ClassFile.declared.tree.ClassTree.{ClassTree as ClassFile};
+ghost use Rattle.cjc_flow.specs.ClassFile.declared.tree.MethodTree.{MethodTree as ClassMethod};
+ghost use Rattle.cjc_flow.specs.World.Classes.{all_classes};
+ghost use Rattle.cjc_flow.specs.LowerTypes.Flow.{body_of};
+ghost use Rattle.cjc_flow.specs.LowerTypes.Tables.{IsMethodOf, IsOfPackage, IsTypeTable, rows_of};
 ghost use Rattle.cjc_flow.specs.Constants.{AreNumbers, values_of};
 ghost use Rattle.cjc_flow.specs.Tables.{IsRangeTable, ranges_of};
 ghost use Rattle.cjc_flow.specs.Tests.Breaches.{IsFound, is_tested};

@@ -2,13 +2,13 @@
 
 ghost use Rattle.std.specs.Prelude.{◌≡◌, ◌≤◌, List, max, option_map, IfOk};
 ghost use Rattle.std.specs.List.{list_any};
-ghost use Rattle.cjc_subset.specs.ClassFile.Code.{CodeTree};
-ghost use Rattle.cjc_subset.specs.ClassFile.declared.tree.ClassTree.{ClassTree as ClassFile};
-ghost use Rattle.cjc_subset.specs.ClassFile.declared.tree.MethodTree.{MethodTree as ClassMethod};
-ghost use Rattle.cjc_subset.specs.World.Classes.{Class, all_classes};
-ghost use Rattle.cjc_flow.specs.Types.Flow.{body_of};
-ghost use Rattle.cjc_flow.specs.Types.Steps.{operand};
-ghost use Rattle.cjc_flow.specs.Types.Tables.{IsMethodOf, IsOfPackage, IsTypeTable, rows_of, state_of};
+ghost use Rattle.cjc_flow.specs.ClassFile.Code.{CodeTree};
+ghost use Rattle.cjc_flow.specs.ClassFile.declared.tree.ClassTree.{ClassTree as ClassFile};
+ghost use Rattle.cjc_flow.specs.ClassFile.declared.tree.MethodTree.{MethodTree as ClassMethod};
+ghost use Rattle.cjc_flow.specs.World.Classes.{Class, all_classes};
+ghost use Rattle.cjc_flow.specs.LowerTypes.Flow.{body_of};
+ghost use Rattle.cjc_flow.specs.LowerTypes.Steps.{operand};
+ghost use Rattle.cjc_flow.specs.LowerTypes.Tables.{IsMethodOf, IsOfPackage, IsTypeTable, rows_of, state_of};
 ghost use Rattle.cjc_int_mode.specs.declared.modes.Mode.TheVariants as modes;
 ghost use Rattle.cjc_int_mode.specs.Room.{IsRoom};
 ghost use Rattle.cjc_int_mode.specs.Written.{argument_words};

@@ -4,12 +4,12 @@ use Rattle.std.proofs.Common.{List, [], ◌∷◌, ◌++◌, length, map, get_or
 use Rattle.std.specs.Prelude.{if◌then◌else◌, ◌||◌, Option, Some, None}
 use Rattle.std.specs.List.{list_any}
 use Rattle.std.proofs.lemmas.List.{drop_all}
-use Rattle.cjc_ncode.specs.Bytes.AccessFlags.{is_static}
-use Rattle.cjc_ncode.specs.Bytes.Descriptor.{Part}
+use Rattle.cjc_int_mode.specs.Bytes.AccessFlags.{is_static}
+use Rattle.cjc_int_mode.specs.Bytes.Descriptor.{Part}
 use Rattle.cjc_ncode.proofs.BytesGets.{from_index}
-use Rattle.cjc_ncode.specs.Script.Sorts.{Sort, Reference, Shape, OfClass, OfNumbers, OfReferences, Booleans, Bytes}
-use Rattle.cjc_ncode.specs.Script.Sorts.{Shorts, Ints, reference_to, signature_of, sort_of}
-use Rattle.cjc_ncode.specs.CardSemantics.Bytecode.Arguments.{width, widths}
+use Rattle.cjc_int_mode.specs.Script.Sorts.{Sort, Reference, Shape, OfClass, OfNumbers, OfReferences, Booleans, Bytes}
+use Rattle.cjc_int_mode.specs.Script.Sorts.{Shorts, Ints, reference_to, signature_of, sort_of}
+use Rattle.cjc_int_mode.specs.CardSemantics.Bytecode.Arguments.{width, widths}
 use Rattle.cjc_ncode.specs.declared.narrow.NInsn.{NInsn}
 use Rattle.cjc_ncode.specs.IntCode.IntCode.{Frame, first_word, handed_over, is_by_scratch, is_reference, is_short}
 use Rattle.cjc_ncode.specs.IntCode.IntCode.{loads, moved, moved_from, nargs, narrowed, prologue, put_aside, scratch}

@@ -1,9 +1,9 @@
 -- Opcodes and returns by cases.
 use Rattle.std.proofs.Common.{◌≡◌, ℕ, ◌≤◌, arith, refl, Bool, true, false, [], ◌∷◌}
 use Rattle.std.specs.Prelude.{Option, Some, None, if◌then◌else◌, ◌==◌}
-use Rattle.cjc_ncode.specs.Bytecode.Jvm as jvm
-use Rattle.cjc_ncode.specs.CapRead.Card as card
-use Rattle.cjc_ncode.specs.Script.Sorts.{Sort, Boolean, Byte, Short, Int, Reference, NoValue}
+use Rattle.cjc_int_mode.specs.Bytecode.Jvm as jvm
+use Rattle.cjc_int_mode.specs.CapRead.Card as card
+use Rattle.cjc_int_mode.specs.Script.Sorts.{Sort, Boolean, Byte, Short, Int, Reference, NoValue}
 use Rattle.cjc_ncode.specs.declared.narrow.NInsn.TheVariants.{Op}
 use Rattle.cjc_ncode.specs.Written.{arithmetic}
 use Rattle.cjc_ncode.specs.IntCode.IntCode.{returned}

@@ -3,7 +3,7 @@ use Rattle.std.proofs.Common.{◌≡◌, ℕ, ◌+◌, ◌<◌, ◌≤◌, max, 
 use Rattle.std.specs.Prelude.{Option, Some, None}
 use Rattle.std.proofs.lemmas.List.{drop_all}
 use Rattle.cjc_ncode.proofs.BytesGets.{from_index}
-use Rattle.cjc_ncode.specs.Bytecode.declared.insn.JInsn.{JInsn}
+use Rattle.cjc_int_mode.specs.Bytecode.declared.insn.JInsn.{JInsn}
 use Rattle.cjc_ncode.specs.IntCode.IntCode.{scratch_pairs}
 use Rattle.cjc_int_narrow.specs.declared.known.Before.{Before}
 use Rattle.cjc_int_narrow.specs.Reached.{reached_by}

@@ -3,15 +3,15 @@ use Rattle.std.proofs.Common.{◌≡◌, ℕ, ◌+◌, ◌-◌, ◌<◌, arith, 
 use Rattle.std.proofs.Common.{map, append_assoc}
 use Rattle.std.specs.Prelude.{if◌then◌else◌, nat_le, Some, None}
 use Rattle.std.proofs.lemmas.Bool.{leb-true}
-use Rattle.cjc_ncode.specs.Bytes.Descriptor.{Part, Parts}
-use Rattle.cjc_ncode.specs.Bytes.declared.descriptor.Kind.{Kind}
-use Rattle.cjc_ncode.specs.Bytes.declared.descriptor.Kind.TheVariants as kinds
-use Rattle.cjc_ncode.specs.Bytes.declared.fault.MemberId.{MemberId}
-use Rattle.cjc_ncode.specs.Bytecode.Jvm as jvm
-use Rattle.cjc_ncode.specs.Bytecode.declared.insn.JOp.{JOp}
-use Rattle.cjc_ncode.specs.Bytecode.declared.insn.JOp.TheVariants as jop
-use Rattle.cjc_ncode.specs.CapRead.Card as card
-use Rattle.cjc_ncode.specs.Script.Sorts.{Signature, result_by, signature_by, sort_by, sort_of}
+use Rattle.cjc_int_mode.specs.Bytes.Descriptor.{Part, Parts}
+use Rattle.cjc_int_mode.specs.Bytes.declared.descriptor.Kind.{Kind}
+use Rattle.cjc_int_mode.specs.Bytes.declared.descriptor.Kind.TheVariants as kinds
+use Rattle.cjc_int_mode.specs.Bytes.declared.fault.MemberId.{MemberId}
+use Rattle.cjc_int_mode.specs.Bytecode.Jvm as jvm
+use Rattle.cjc_int_mode.specs.Bytecode.declared.insn.JOp.{JOp}
+use Rattle.cjc_int_mode.specs.Bytecode.declared.insn.JOp.TheVariants as jop
+use Rattle.cjc_int_mode.specs.CapRead.Card as card
+use Rattle.cjc_int_mode.specs.Script.Sorts.{Signature, result_by, signature_by, sort_by, sort_of}
 use Rattle.cjc_ncode.specs.declared.narrow.NInsn.{NInsn}
 use Rattle.cjc_ncode.specs.declared.narrow.NInsn.TheVariants.{Jump, Op}
 use Rattle.cjc_ncode.specs.Written.{Resolution, call_by, condition, written as written_short}

@@ -7,21 +7,21 @@ use Rattle.std.proofs.lemmas.Bool.{ltb-true, lt-ltb, le-leb}
 use Rattle.std.proofs.lemmas.List.Elements.{Contains-append_left, Contains-append_right}
 use Rattle.std.proofs.lemmas.Option.{slice_get_within}
 use Rattle.cjc_ncode.proofs.BytesGets.{contained, get_inside}
-use Rattle.cjc_narrow.specs.Fixpoint.Tables.{HasRow}
-use Rattle.cjc_narrow.specs.Fixpoint.Working.Edges.{contains_head, contains_tail}
-use Rattle.cjc_ncode.specs.ClassFile.Code.{CodeTree}
-use Rattle.cjc_ncode.specs.ClassFile.declared.tree.Catch.{Catch}
-use Rattle.cjc_ncode.specs.ClassFile.declared.tree.ClassTree.{ClassTree}
-use Rattle.cjc_ncode.specs.ClassFile.declared.tree.MethodTree.{MethodTree}
-use Rattle.cjc_ncode.specs.Bytecode.declared.insn.JInsn.{JInsn}
-use Rattle.cjc_ncode.specs.Bytecode.declared.method_code.MethodCode.{MethodCode}
-use Rattle.cjc_narrow.specs.World.Files.{Files}
-use Rattle.cjc_int_proof.specs.Types.declared.state.State.{State}
-use Rattle.cjc_int_proof.specs.Types.Flow.{Body, body_of, covers, next_place, place_at, successors}
-use Rattle.cjc_int_proof.specs.Types.Steps.{goes_on, targets}
-use Rattle.cjc_int_proof.specs.Types.Tables.{IsLeastTable, IsMethodOf}
-use Rattle.cjc_int_proof.specs.Types.TypeLaws.Closed.{IsClosedTable, Reaches}
-use Rattle.cjc_int_proof.specs.Types.TypeLaws.Places.{HasPlace}
+use Rattle.cjc_int_mode.specs.Fixpoint.Tables.{HasRow}
+use Rattle.cjc_int_mode.specs.Fixpoint.Working.Edges.{contains_head, contains_tail}
+use Rattle.cjc_int_mode.specs.ClassFile.Code.{CodeTree}
+use Rattle.cjc_int_mode.specs.ClassFile.declared.tree.Catch.{Catch}
+use Rattle.cjc_int_mode.specs.ClassFile.declared.tree.ClassTree.{ClassTree}
+use Rattle.cjc_int_mode.specs.ClassFile.declared.tree.MethodTree.{MethodTree}
+use Rattle.cjc_int_mode.specs.Bytecode.declared.insn.JInsn.{JInsn}
+use Rattle.cjc_int_mode.specs.Bytecode.declared.method_code.MethodCode.{MethodCode}
+use Rattle.cjc_int_mode.specs.World.Files.{Files}
+use Rattle.cjc_narrow.specs.Types.declared.state.State.{State}
+use Rattle.cjc_narrow.specs.Types.Flow.{Body, body_of, covers, next_place, place_at, successors}
+use Rattle.cjc_narrow.specs.Types.Steps.{goes_on, targets}
+use Rattle.cjc_narrow.specs.Types.Tables.{IsLeastTable, IsMethodOf}
+use Rattle.cjc_narrow.specs.Types.TypeLaws.Closed.{IsClosedTable, Reaches}
+use Rattle.cjc_narrow.specs.Types.TypeLaws.Places.{HasPlace}
 use Rattle.cjc_narrow.proofs.TypesAscending.{insns_ascend}
 use Rattle.cjc_narrow.proofs.TypesFew.{insns_at_most}
 use Rattle.cjc_narrow.proofs.TypesTyped.{contains_kept}
@@ -30,13 +30,13 @@ use Rattle.cjc_narrow.proofs.TypesStanding.{handler_placed, next_there, target_p
 use Rattle.cjc_ncode.specs.declared.narrow.NMethod.{NMethod}
 use Rattle.cjc_ncode.specs.Written.{Resolution, catch_at, catches_at}
 use Rattle.cjc_ncode.specs.IntCode.IntCode.{Frame, Reached, int_method, place_in, size}
-use Rattle.cjc_int_proof.specs.LowerLayout.Handlers.{AllLie}
-use Rattle.cjc_int_proof.specs.LowerLayout.Layouts.{IsWhole}
+use Rattle.cjc_int_proof.specs.Layout.Handlers.{AllLie}
+use Rattle.cjc_int_proof.specs.Layout.Layouts.{IsWhole}
 use Rattle.cjc_int_proof.specs.Labels.{LabelsStand}
 use Rattle.cjc_int_proof.proofs.Counts.{below, between, goes_on_unwritten, order, within}
 use Rattle.cjc_int_proof.proofs.Leads.{all_labels_stand}
 use Rattle.cjc_int_proof.proofs.Sizes.{no_wider}
-use Rattle.cjc_int_mode.specs.LowerIntervals.Frames.{RangeState}
+use Rattle.cjc_int_mode.specs.Intervals.Frames.{RangeState}
 use Rattle.cjc_int_mode.specs.Written.{before, int_frame, places_from, reached_from, written_in_int_mode}
 
 -- an instruction that has a row is reached, and a reached one has a row

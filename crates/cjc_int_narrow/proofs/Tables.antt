@@ -6,10 +6,10 @@ use Rattle.std.proofs.lemmas.List.{drop_all}
 use Rattle.std.proofs.lemmas.Option.{get_or_from_slice_get}
 use Rattle.cjc_ncode.proofs.BytesGets.{drop_at}
 use Rattle.cjc_ncode.proofs.BytesLists.{map_append}
-use Rattle.cjc_ncode.specs.Bytecode.declared.insn.JInsn.{JInsn}
+use Rattle.cjc_int_mode.specs.Bytecode.declared.insn.JInsn.{JInsn}
 use Rattle.cjc_ncode.specs.IntCode.IntCode.{Before as TableRow}
-use Rattle.cjc_int_proof.specs.Types.declared.state.State.{State}
-use Rattle.cjc_int_mode.specs.LowerIntervals.Frames.{RangeState}
+use Rattle.cjc_narrow.specs.Types.declared.state.State.{State}
+use Rattle.cjc_int_mode.specs.Intervals.Frames.{RangeState}
 use Rattle.cjc_int_mode.specs.Written.{before}
 use Rattle.cjc_int_narrow.specs.declared.known.Before.{Before}
 use Rattle.cjc_int_narrow.specs.Reached.{known}

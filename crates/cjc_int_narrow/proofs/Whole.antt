@@ -4,20 +4,20 @@ use Rattle.std.proofs.Common.{false, List, [], ◌∷◌, ◌++◌, length, map,
 use Rattle.std.specs.Prelude.{option_map, nat_le}
 use Rattle.std.proofs.lemmas.Bool.{leb-true, leb-false}
 use Rattle.cjc_ncode.proofs.BytesLists.{length_mapped}
-use Rattle.cjc_ncode.specs.ClassFile.Code.{CodeTree}
-use Rattle.cjc_ncode.specs.ClassFile.declared.tree.ClassTree.{ClassTree}
-use Rattle.cjc_ncode.specs.ClassFile.declared.tree.MethodTree.{MethodTree}
-use Rattle.cjc_ncode.specs.Bytecode.declared.insn.JInsn.{JInsn}
-use Rattle.cjc_ncode.specs.Bytecode.declared.insn.JOp.{JOp}
-use Rattle.cjc_ncode.specs.Bytecode.declared.insn.JOp.TheVariants as jop
+use Rattle.cjc_int_mode.specs.ClassFile.Code.{CodeTree}
+use Rattle.cjc_int_mode.specs.ClassFile.declared.tree.ClassTree.{ClassTree}
+use Rattle.cjc_int_mode.specs.ClassFile.declared.tree.MethodTree.{MethodTree}
+use Rattle.cjc_int_mode.specs.Bytecode.declared.insn.JInsn.{JInsn}
+use Rattle.cjc_int_mode.specs.Bytecode.declared.insn.JOp.{JOp}
+use Rattle.cjc_int_mode.specs.Bytecode.declared.insn.JOp.TheVariants as jop
 use Rattle.cjc_ncode.specs.declared.narrow.NMethod.{NMethod}
 use Rattle.cjc_ncode.specs.Written.{Resolution, catches_at, reached}
 use Rattle.cjc_ncode.specs.IntCode.IntCode.{Before as TableRow, Frame, Reached, int_method, nargs, place_in, prologue}
 use Rattle.cjc_ncode.specs.IntCode.IntCode.{scratch_pairs, scratch_pairs_of, written_from}
-use Rattle.cjc_narrow.specs.Fixpoint.Tables.{HasRow}
-use Rattle.cjc_int_proof.specs.Types.declared.state.State.{State}
-use Rattle.cjc_int_proof.specs.Types.Flow.{Body, body_of}
-use Rattle.cjc_int_mode.specs.LowerIntervals.Frames.{RangeState}
+use Rattle.cjc_int_mode.specs.Fixpoint.Tables.{HasRow}
+use Rattle.cjc_narrow.specs.Types.declared.state.State.{State}
+use Rattle.cjc_narrow.specs.Types.Flow.{Body, body_of}
+use Rattle.cjc_int_mode.specs.Intervals.Frames.{RangeState}
 use Rattle.cjc_int_mode.specs.Room.{many_words, high_stack}
 use Rattle.cjc_int_mode.specs.Written.{before, int_frame, most_pairs, places_from, reached_from, written_in_int_mode}
 use Rattle.cjc_int_mode.proofs.Written.{pairs_same}

@@ -3,11 +3,13 @@ pub mod Operands
 pub mod Select
 pub mod Working
 -- Definitions of lower crates, for those above.
-pub mod Fixpoint
-pub mod Types
-pub mod Intervals
-pub mod IntMode
-pub mod JvmSemantics
-pub mod Narrow
-pub mod Layout
-pub mod IntProof
+pub mod Bytes
+pub mod Range
+pub mod ClassFile
+pub mod Bytecode
+pub mod Script
+pub mod World
+pub mod CardSemantics
+pub mod LowerIntMode
+pub mod LowerNarrow
+pub mod LowerIntProof

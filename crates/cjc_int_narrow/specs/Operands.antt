@@ -1,11 +1,11 @@
 -- Which numbers the operands of narrow code in int mode can say.
 use Rattle.std.specs.Prelude.{◌≡◌, ℕ, List, slice_get, Option, Some}
-use Rattle.cjc_ncode.specs.Bytes.declared.fault.MemberId.{MemberId}
-use Rattle.cjc_ncode.specs.Bytecode.declared.insn.JInsn.{JInsn}
-use Rattle.cjc_ncode.specs.Bytecode.declared.insn.JOp.{JOp}
-use Rattle.cjc_ncode.specs.Bytecode.declared.insn.JOp.TheVariants as jop
-use Rattle.cjc_ncode.specs.Bytecode.Jvm as jvm
-use Rattle.cjc_ncode.specs.Script.Sorts.{signature_of}
+use Rattle.cjc_int_mode.specs.Bytes.declared.fault.MemberId.{MemberId}
+use Rattle.cjc_int_mode.specs.Bytecode.declared.insn.JInsn.{JInsn}
+use Rattle.cjc_int_mode.specs.Bytecode.declared.insn.JOp.{JOp}
+use Rattle.cjc_int_mode.specs.Bytecode.declared.insn.JOp.TheVariants as jop
+use Rattle.cjc_int_mode.specs.Bytecode.Jvm as jvm
+use Rattle.cjc_int_mode.specs.Script.Sorts.{signature_of}
 use Rattle.cjc_ncode.specs.Written.{nargs_of}
 use Rattle.cjc_ncode.specs.IntCode.IntCode.{Frame, first_word, scratch, scratch_pairs_by}
 use Rattle.cjc_narrow.specs.Written.Operands.{IsByte}

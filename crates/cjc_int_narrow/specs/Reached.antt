@@ -1,6 +1,6 @@
 -- Which instructions of a method are reached, with what its least tables say before each.
 use Rattle.std.specs.Prelude.{ℕ, ◌+◌, List, [], ◌∷◌, Option, Some, None}
-use Rattle.cjc_ncode.specs.Bytecode.declared.insn.JInsn.{JInsn}
+use Rattle.cjc_int_mode.specs.Bytecode.declared.insn.JInsn.{JInsn}
 use Rattle.cjc_ncode.specs.IntCode.IntCode.{Reached, Before as TableRow}
 use Rattle.cjc_int_narrow.specs.declared.known.Before.{Before}
 

@@ -1,17 +1,17 @@
 -- When a method in int mode can be selected, and how what is known before its instructions stands for its least tables.
 use Rattle.std.specs.Prelude.{◌≡◌, ℕ, ◌+◌, ◌<◌, ◌≤◌, List, [], ◌∷◌, length, map, get_or, slice_get, Option, Some, None}
 use Rattle.std.specs.Prelude.{option_map, true}
-use Rattle.cjc_ncode.specs.Bytecode.declared.insn.JInsn.{JInsn}
-use Rattle.cjc_ncode.specs.Bytecode.declared.insn.JOp.{JOp}
-use Rattle.cjc_ncode.specs.Bytecode.declared.insn.JOp.TheVariants as jop
-use Rattle.cjc_ncode.specs.Bytecode.Jvm as jvm
+use Rattle.cjc_int_mode.specs.Bytecode.declared.insn.JInsn.{JInsn}
+use Rattle.cjc_int_mode.specs.Bytecode.declared.insn.JOp.{JOp}
+use Rattle.cjc_int_mode.specs.Bytecode.declared.insn.JOp.TheVariants as jop
+use Rattle.cjc_int_mode.specs.Bytecode.Jvm as jvm
 use Rattle.cjc_ncode.specs.Written.{nargs_of}
 use Rattle.cjc_ncode.specs.IntCode.IntCode.{Before as TableRow}
 use Rattle.cjc_narrow.specs.Written.Operands.{IsAscending, IsByte}
-use Rattle.cjc_narrow.specs.Fixpoint.Tables.{HasRow}
-use Rattle.cjc_int_proof.specs.Types.declared.state.State.{State}
-use Rattle.cjc_int_proof.specs.Types.Flow.{Body}
-use Rattle.cjc_int_mode.specs.LowerIntervals.Frames.{RangeState}
+use Rattle.cjc_int_mode.specs.Fixpoint.Tables.{HasRow}
+use Rattle.cjc_narrow.specs.Types.declared.state.State.{State}
+use Rattle.cjc_narrow.specs.Types.Flow.{Body}
+use Rattle.cjc_int_mode.specs.Intervals.Frames.{RangeState}
 use Rattle.cjc_int_mode.specs.declared.modes.Mode.TheVariants as modes
 use Rattle.cjc_int_mode.specs.Room.{IsRoom}
 use Rattle.cjc_int_mode.specs.Written.{before, int_frame}

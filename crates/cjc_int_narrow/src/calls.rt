@@ -2,7 +2,7 @@
 
 ghost use Rattle.std.specs.Prelude.{◌≡◌, ◌+◌, ◌*◌, ◌≤◌, ◌++◌, length, map, true, OnOk};
 ghost use Rattle.std.specs.List.{list_any};
-ghost use Rattle.cjc_ncode.specs.Script.Sorts.{sort_of};
+ghost use Rattle.cjc_int_mode.specs.Script.Sorts.{sort_of};
 ghost use Rattle.cjc_ncode.specs.IntCode.IntCode.{is_by_scratch, is_short};
 ghost use Rattle.cjc_int_narrow.specs.Working.Moves.{aside_all, back_all, handed};
 

@@ -1,8 +1,8 @@
 //! Elements of arrays, whose index of two words becomes one. Called by whoever selects code.
 
 ghost use Rattle.std.specs.Prelude.{◌≡◌, ◌+◌, ◌≤◌, ◌++◌, ◌∷◌, [], ◌==◌, if◌then◌else◌, length, IfOk, OnOk};
-ghost use Rattle.cjc_ncode.specs.Bytecode.Jvm as jvm;
-ghost use Rattle.cjc_ncode.specs.CapRead.Card as card;
+ghost use Rattle.cjc_int_mode.specs.Bytecode.Jvm as jvm;
+ghost use Rattle.cjc_int_mode.specs.CapRead.Card as card;
 ghost use Rattle.cjc_ncode.specs.declared.narrow.NInsn.TheVariants.{Op};
 ghost use Rattle.cjc_ncode.specs.IntCode.IntCode.{element_read, element_written, guard};
 ghost use Rattle.cjc_int_narrow.specs.Working.Elements.{index_below};

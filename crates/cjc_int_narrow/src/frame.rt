@@ -1,8 +1,8 @@
 //! The frame of a method in int mode: where its locals stand, and what goes before its first instruction.
 
 ghost use Rattle.std.specs.Prelude.{◌≡◌, ◌+◌, ◌*◌, ◌<◌, ◌≤◌, ◌++◌, ◌∷◌, [], length, map, IfOk, OnOk};
-ghost use Rattle.cjc_ncode.specs.Script.Sorts.{signature_of, sort_of};
-ghost use Rattle.cjc_ncode.specs.CardSemantics.Bytecode.Arguments.{widths};
+ghost use Rattle.cjc_int_mode.specs.Script.Sorts.{signature_of, sort_of};
+ghost use Rattle.cjc_int_mode.specs.CardSemantics.Bytecode.Arguments.{widths};
 ghost use Rattle.cjc_ncode.specs.IntCode.IntCode.{first_word, nargs, prologue, scratch};
 ghost use Rattle.cjc_int_narrow.specs.Working.Frames.{frame_of};
 ghost use Rattle.cjc_int_mode.specs.Written.{params_by};

@@ -1,7 +1,7 @@
 //! How values of a type are kept. Called for parameters, fields and results.
 
 ghost use Rattle.std.specs.Prelude.{◌≡◌, ◌++◌, IfOk, OnOk};
-ghost use Rattle.cjc_ncode.specs.Script.Sorts.{field_sort, reference_to, shape_named, signature_of, sort_by};
+ghost use Rattle.cjc_int_mode.specs.Script.Sorts.{field_sort, reference_to, shape_named, signature_of, sort_by};
 ghost use Rattle.cjc_ncode.specs.IntCode.IntCode.{is_reference, is_short, params_by};
 ghost use Rattle.cjc_int_mode.specs.Written.{result_by};
 ghost use Rattle.cjc_int_narrow.specs.Working.Moves.{is_int, kept_as, narrowed_if, widened_if};

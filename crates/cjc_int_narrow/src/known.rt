@@ -1,20 +1,20 @@
 //! What the least tables of a method say before each of its instructions. Called before code is selected.
 
 ghost use Rattle.std.specs.Prelude.{◌≡◌, ◌<◌, Option, ℤ, List, map, option_map, IfOk};
-ghost use Rattle.cjc_ncode.specs.Bytes.declared.fault.MemberId.{MemberId as Field};
-ghost use Rattle.cjc_ncode.specs.ClassFile.Code.{CodeTree};
-ghost use Rattle.cjc_ncode.specs.ClassFile.declared.tree.ClassTree.{ClassTree as ClassFile};
-ghost use Rattle.cjc_ncode.specs.ClassFile.declared.tree.MethodTree.{MethodTree as ClassMethod};
-ghost use Rattle.cjc_narrow.specs.World.Classes.{Class, all_classes};
-ghost use Rattle.cjc_int_proof.specs.Types.Flow.{body_of};
-ghost use Rattle.cjc_int_proof.specs.Types.Rules.{is_reference};
-ghost use Rattle.cjc_int_proof.specs.Types.Steps.{operand as typed_operand};
-ghost use Rattle.cjc_int_proof.specs.Types.Tables.{IsMethodOf, IsOfPackage, IsTypeTable, rows_of, state_of};
-ghost use Rattle.cjc_int_mode.specs.LowerFlow.Constants.{AreNumbers, values_of};
-ghost use Rattle.cjc_int_mode.specs.LowerIntervals.Bounds.{index_range};
-ghost use Rattle.cjc_int_mode.specs.LowerIntervals.Steps.{operand};
-ghost use Rattle.cjc_int_mode.specs.LowerFlow.Tables.{IsRangeTable, ranges_of};
-ghost use Rattle.cjc_int_mode.specs.LowerFlow.Tests.Working.Search.{lies_in};
+ghost use Rattle.cjc_int_mode.specs.Bytes.declared.fault.MemberId.{MemberId as Field};
+ghost use Rattle.cjc_int_mode.specs.ClassFile.Code.{CodeTree};
+ghost use Rattle.cjc_int_mode.specs.ClassFile.declared.tree.ClassTree.{ClassTree as ClassFile};
+ghost use Rattle.cjc_int_mode.specs.ClassFile.declared.tree.MethodTree.{MethodTree as ClassMethod};
+ghost use Rattle.cjc_int_mode.specs.World.Classes.{Class, all_classes};
+ghost use Rattle.cjc_narrow.specs.Types.Flow.{body_of};
+ghost use Rattle.cjc_narrow.specs.Types.Rules.{is_reference};
+ghost use Rattle.cjc_narrow.specs.Types.Steps.{operand as typed_operand};
+ghost use Rattle.cjc_narrow.specs.Types.Tables.{IsMethodOf, IsOfPackage, IsTypeTable, rows_of, state_of};
+ghost use Rattle.cjc_int_mode.specs.Flow.Constants.{AreNumbers, values_of};
+ghost use Rattle.cjc_int_mode.specs.Intervals.Bounds.{index_range};
+ghost use Rattle.cjc_int_mode.specs.Intervals.Steps.{operand};
+ghost use Rattle.cjc_int_mode.specs.Flow.Tables.{IsRangeTable, ranges_of};
+ghost use Rattle.cjc_int_mode.specs.Flow.Tests.Working.Search.{lies_in};
 ghost use Rattle.cjc_int_mode.specs.Written.{before, index_operand, spans_before};
 ghost use Rattle.cjc_int_narrow.specs.Reached.{known};
 ghost use Rattle.cjc_int_narrow.specs.Select.{AreBefore, rows_before};

@@ -1,16 +1,16 @@
 //! What is selected for methods in int mode is what laying out asks. Laws alone: nothing here runs.
 
 ghost use Rattle.std.specs.Prelude.{List, Option};
-ghost use Rattle.cjc_int_proof.specs.LowerLayout.Layouts.{IsWhole};
-ghost use Rattle.cjc_ncode.specs.Bytecode.declared.method_code.MethodCode.{MethodCode};
-ghost use Rattle.cjc_ncode.specs.ClassFile.Code.{CodeTree};
-ghost use Rattle.cjc_ncode.specs.ClassFile.declared.tree.ClassTree.{ClassTree};
-ghost use Rattle.cjc_ncode.specs.ClassFile.declared.tree.MethodTree.{MethodTree};
-ghost use Rattle.cjc_narrow.specs.World.Files.{Files};
-ghost use Rattle.cjc_int_proof.specs.Types.declared.state.State.{State};
-ghost use Rattle.cjc_int_proof.specs.Types.Flow.{body_of};
-ghost use Rattle.cjc_int_proof.specs.Types.Tables.{IsLeastTable, IsMethodOf};
-ghost use Rattle.cjc_int_mode.specs.LowerIntervals.Frames.{RangeState};
+ghost use Rattle.cjc_int_proof.specs.Layout.Layouts.{IsWhole};
+ghost use Rattle.cjc_int_mode.specs.Bytecode.declared.method_code.MethodCode.{MethodCode};
+ghost use Rattle.cjc_int_mode.specs.ClassFile.Code.{CodeTree};
+ghost use Rattle.cjc_int_mode.specs.ClassFile.declared.tree.ClassTree.{ClassTree};
+ghost use Rattle.cjc_int_mode.specs.ClassFile.declared.tree.MethodTree.{MethodTree};
+ghost use Rattle.cjc_int_mode.specs.World.Files.{Files};
+ghost use Rattle.cjc_narrow.specs.Types.declared.state.State.{State};
+ghost use Rattle.cjc_narrow.specs.Types.Flow.{body_of};
+ghost use Rattle.cjc_narrow.specs.Types.Tables.{IsLeastTable, IsMethodOf};
+ghost use Rattle.cjc_int_mode.specs.Intervals.Frames.{RangeState};
 ghost use Rattle.cjc_ncode.specs.Written.{Resolution};
 ghost use Rattle.cjc_int_mode.specs.Written.{written_in_int_mode};
 

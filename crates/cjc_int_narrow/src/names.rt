@@ -2,10 +2,10 @@
 //! word are cut before and widened behind. Knows no label.
 
 ghost use Rattle.std.specs.Prelude.{◌≡◌, ◌<◌, ◌++◌, ◌∷◌, [], if◌then◌else◌, true, OnOk};
-ghost use Rattle.cjc_ncode.specs.Bytecode.Jvm as jvm;
+ghost use Rattle.cjc_int_mode.specs.Bytecode.Jvm as jvm;
 ghost use Rattle.cjc_ncode.specs.declared.narrow.NInsn.TheVariants.{Named};
 ghost use Rattle.cjc_ncode.specs.declared.narrow.PoolKey.TheVariants as keys;
-ghost use Rattle.cjc_ncode.specs.Script.Sorts.{field_sort, signature_by, signature_of};
+ghost use Rattle.cjc_int_mode.specs.Script.Sorts.{field_sort, signature_by, signature_of};
 ghost use Rattle.cjc_ncode.specs.Written.{nargs_of, static_access};
 ghost use Rattle.cjc_ncode.specs.IntCode.IntCode.{called_with, field_get, field_put, scratch, scratch_pairs_by};
 ghost use Rattle.cjc_ncode.specs.IntCode.IntCode.{static_get, static_put};

@@ -1,9 +1,9 @@
 //! What is written for an instruction of a method in int mode. Called by whoever selects code.
 
 ghost use Rattle.std.specs.Prelude.{◌≡◌, ◌+◌, ◌++◌, ◌∷◌, [], ◌==◌, if◌then◌else◌, ℕ, true, length, OnOk};
-ghost use Rattle.cjc_ncode.specs.CapRead.Card as card;
-ghost use Rattle.cjc_ncode.specs.Bytecode.Jvm as jvm;
-ghost use Rattle.cjc_ncode.specs.Bytecode.declared.insn.JOp.TheVariants as jop;
+ghost use Rattle.cjc_int_mode.specs.CapRead.Card as card;
+ghost use Rattle.cjc_int_mode.specs.Bytecode.Jvm as jvm;
+ghost use Rattle.cjc_int_mode.specs.Bytecode.declared.insn.JOp.TheVariants as jop;
 ghost use Rattle.cjc_ncode.specs.declared.narrow.NInsn.TheVariants.{Inc, Op};
 ghost use Rattle.cjc_ncode.specs.IntCode.IntCode.{Before as TableRow, Frame as Words, returned, written};
 ghost use Rattle.cjc_ncode.specs.Written.{Resolution, arithmetic, is_byte, leaving};

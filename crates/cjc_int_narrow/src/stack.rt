@@ -1,7 +1,7 @@
 //! pop to swap, by which cells on top are references, which have one word, and which are numbers, which have two.
 
 ghost use Rattle.std.specs.Prelude.{◌≡◌, ◌-◌, ◌≤◌, ◌++◌, if◌then◌else◌, map, take, OnOk};
-ghost use Rattle.cjc_ncode.specs.CapRead.Card as card;
+ghost use Rattle.cjc_int_mode.specs.CapRead.Card as card;
 ghost use Rattle.cjc_ncode.specs.declared.narrow.NInsn.TheVariants.{Words};
 ghost use Rattle.cjc_ncode.specs.IntCode.IntCode.{copied, dropped, on_stack, words};
 

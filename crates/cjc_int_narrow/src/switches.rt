@@ -1,7 +1,7 @@
 //! Switches, every case of which is kept, and jumps that compare numbers. Called by whoever selects code.
 
 ghost use Rattle.std.specs.Prelude.{◌≡◌, ◌≤◌, ◌++◌, ◌∷◌, [], map, pos, ◌+ℤ◌, IfOk, OnOk};
-ghost use Rattle.cjc_ncode.specs.CapRead.Card as card;
+ghost use Rattle.cjc_int_mode.specs.CapRead.Card as card;
 ghost use Rattle.cjc_ncode.specs.declared.narrow.NInsn.TheVariants.{Switch};
 ghost use Rattle.cjc_ncode.specs.Written.{pair_case};
 ghost use Rattle.cjc_ncode.specs.IntCode.IntCode.{jumped, table_cases};

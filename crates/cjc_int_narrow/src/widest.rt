@@ -1,8 +1,8 @@
 //! The widest sizes of what is written, in bytes. Called by whoever selects code.
 
 ghost use Rattle.std.specs.Prelude.{◌≡◌, ◌+◌, ◌*◌, ◌==◌, ◌≤◌, if◌then◌else◌, nat_le, length, IfOk};
-ghost use Rattle.cjc_ncode.specs.Bytecode.Jvm as jvm;
-ghost use Rattle.cjc_ncode.specs.Script.Sorts.{signature_of};
+ghost use Rattle.cjc_int_mode.specs.Bytecode.Jvm as jvm;
+ghost use Rattle.cjc_int_mode.specs.Script.Sorts.{signature_of};
 ghost use Rattle.cjc_ncode.specs.IntCode.IntCode.{params_by, widest, widest_get, widest_sum};
 ghost use Rattle.cjc_narrow.specs.Select.Working.Names.{resolution_of};
 ghost use Rattle.cjc_int_narrow.specs.Reached.{reached_by};

@@ -1,9 +1,9 @@
 -- Whole runs of a machine that follows another with one instruction or more for each.
 use Rattle.std.proofs.Common.{ℕ, suc, ◌+◌, ◌≤◌, sym, ap, subst, ◌∙◌, zero-add, arith}
-use Rattle.cjc_ncode.specs.CardSemantics.Bytecode.Machine.{Setting, State}
-use Rattle.cjc_ncode.specs.CardSemantics.Bytecode.Runs.{Move, Device, On, Leads, device, run, Steps, Simulates}
-use Rattle.cjc_ncode.specs.CardSemantics.Bytecode.Runs.{Agree}
-use Rattle.cjc_ncode.specs.CardSemantics.Bytecode.Runs as runs
+use Rattle.cjc_layout.specs.CardSemantics.Bytecode.Machine.{Setting, State}
+use Rattle.cjc_layout.specs.CardSemantics.Bytecode.Runs.{Move, Device, On, Leads, device, run, Steps, Simulates}
+use Rattle.cjc_layout.specs.CardSemantics.Bytecode.Runs.{Agree}
+use Rattle.cjc_layout.specs.CardSemantics.Bytecode.Runs as runs
 use Rattle.cjc_ncode.proofs.CardSemanticsFollows.{from_there, agree}
 use Rattle.cjc_ncode.proofs.CardSemanticsLonger.{machine_lawful}
 use Rattle.cjc_int_proof.specs.Walks.{at_spot}

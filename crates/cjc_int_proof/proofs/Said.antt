@@ -9,21 +9,21 @@ use Rattle.std.proofs.lemmas.List.{length-map}
 use Rattle.std.proofs.lemmas.List.Sums.{sum_by-cons}
 use Rattle.cjc_types.proofs.BytesBools.{both_front}
 use Rattle.cjc_types.proofs.BytesIntegers.{le_true}
-use Rattle.cjc_ncode.specs.Bytes.declared.fault.MemberId.{MemberId}
-use Rattle.cjc_ncode.specs.Script.Sorts.{Sort, Boolean, Byte as ByteSort, Short, Int, Reference, NoValue, Shape}
-use Rattle.cjc_ncode.specs.Script.Sorts.{OfClass, OfNumbers, OfReferences, Booleans, Bytes, Shorts, Ints, Signature}
-use Rattle.cjc_ncode.specs.Script.Sorts.{field_sort, shape_named, signature_of}
-use Rattle.cjc_ncode.specs.CardSemantics.Bytecode.Arguments.{width, widths}
-use Rattle.cjc_ncode.specs.CardSemantics.Bytecode.Meanings.{meaning}
-use Rattle.cjc_ncode.specs.ClassFile.Code.{CodeTree}
-use Rattle.cjc_ncode.specs.CapRead.Card as card
-use Rattle.cjc_ncode.specs.CapRead.Decode.{AllFit, IsWithin, below, matches_ascend, more, negative, none, pairs}
-use Rattle.cjc_ncode.specs.CapRead.Decode.{positive, up_to}
-use Rattle.cjc_ncode.specs.CapRead.Opcodes.{Byte, Fields, Lookup, Signed1, Signed2, Signed4, Table, form, forms}
-use Rattle.cjc_ncode.specs.Bytecode.Jvm as jvm
-use Rattle.cjc_ncode.specs.Bytecode.declared.insn.JCase.{JCase}
-use Rattle.cjc_ncode.specs.Bytecode.declared.insn.JOp.{JOp}
-use Rattle.cjc_ncode.specs.Bytecode.declared.insn.JOp.TheVariants as jop
+use Rattle.cjc_types.specs.Bytes.declared.fault.MemberId.{MemberId}
+use Rattle.cjc_layout.specs.Script.Sorts.{Sort, Boolean, Byte as ByteSort, Short, Int, Reference, NoValue, Shape}
+use Rattle.cjc_layout.specs.Script.Sorts.{OfClass, OfNumbers, OfReferences, Booleans, Bytes, Shorts, Ints, Signature}
+use Rattle.cjc_layout.specs.Script.Sorts.{field_sort, shape_named, signature_of}
+use Rattle.cjc_layout.specs.CardSemantics.Bytecode.Arguments.{width, widths}
+use Rattle.cjc_layout.specs.CardSemantics.Bytecode.Meanings.{meaning}
+use Rattle.cjc_types.specs.ClassFile.Code.{CodeTree}
+use Rattle.cjc_layout.specs.CapRead.Card as card
+use Rattle.cjc_layout.specs.CapRead.Decode.{AllFit, IsWithin, below, matches_ascend, more, negative, none, pairs}
+use Rattle.cjc_layout.specs.CapRead.Decode.{positive, up_to}
+use Rattle.cjc_layout.specs.CapRead.Opcodes.{Byte, Fields, Lookup, Signed1, Signed2, Signed4, Table, form, forms}
+use Rattle.cjc_types.specs.Bytecode.Jvm as jvm
+use Rattle.cjc_types.specs.Bytecode.declared.insn.JCase.{JCase}
+use Rattle.cjc_types.specs.Bytecode.declared.insn.JOp.{JOp}
+use Rattle.cjc_types.specs.Bytecode.declared.insn.JOp.TheVariants as jop
 use Rattle.cjc_ncode.specs.Lowering.Laid.{laid, matches, offsets}
 use Rattle.cjc_ncode.specs.Lowering.Naming.{Naming}
 use Rattle.cjc_ncode.specs.Lowering.Placed.{IsSpellable}

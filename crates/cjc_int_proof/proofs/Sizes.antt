@@ -6,18 +6,18 @@ use Rattle.std.specs.List.{list_any}
 use Rattle.std.proofs.lemmas.Bool.{leb-true}
 use Rattle.std.proofs.lemmas.List.Sums.{sum_by-cons}
 use Rattle.cjc_types.proofs.BytesLists.{length_mapped}
-use Rattle.cjc_ncode.specs.Bytes.declared.fault.MemberId.{MemberId}
-use Rattle.cjc_ncode.specs.Script.Sorts.{Sort, Boolean, Byte, Short, Int, Reference, NoValue, Shape, OfClass}
-use Rattle.cjc_ncode.specs.Script.Sorts.{OfNumbers}
-use Rattle.cjc_ncode.specs.Script.Sorts.{OfReferences, Booleans, Bytes, Shorts, Ints, Signature, field_sort}
-use Rattle.cjc_ncode.specs.Script.Sorts.{shape_named, signature_of}
-use Rattle.cjc_ncode.specs.CardSemantics.Bytecode.Arguments.{widths}
-use Rattle.cjc_ncode.specs.CapRead.Card as card
-use Rattle.cjc_ncode.specs.CapRead.Opcodes.{form, forms}
-use Rattle.cjc_ncode.specs.ClassFile.Code.{CodeTree}
-use Rattle.cjc_ncode.specs.Bytecode.Jvm as jvm
-use Rattle.cjc_ncode.specs.Bytecode.declared.insn.JOp.{JOp}
-use Rattle.cjc_ncode.specs.Bytecode.declared.insn.JOp.TheVariants as jop
+use Rattle.cjc_types.specs.Bytes.declared.fault.MemberId.{MemberId}
+use Rattle.cjc_layout.specs.Script.Sorts.{Sort, Boolean, Byte, Short, Int, Reference, NoValue, Shape, OfClass}
+use Rattle.cjc_layout.specs.Script.Sorts.{OfNumbers}
+use Rattle.cjc_layout.specs.Script.Sorts.{OfReferences, Booleans, Bytes, Shorts, Ints, Signature, field_sort}
+use Rattle.cjc_layout.specs.Script.Sorts.{shape_named, signature_of}
+use Rattle.cjc_layout.specs.CardSemantics.Bytecode.Arguments.{widths}
+use Rattle.cjc_layout.specs.CapRead.Card as card
+use Rattle.cjc_layout.specs.CapRead.Opcodes.{form, forms}
+use Rattle.cjc_types.specs.ClassFile.Code.{CodeTree}
+use Rattle.cjc_types.specs.Bytecode.Jvm as jvm
+use Rattle.cjc_types.specs.Bytecode.declared.insn.JOp.{JOp}
+use Rattle.cjc_types.specs.Bytecode.declared.insn.JOp.TheVariants as jop
 use Rattle.cjc_ncode.specs.declared.narrow.NCase.{NCase}
 use Rattle.cjc_ncode.specs.declared.narrow.NInsn.{NInsn}
 use Rattle.cjc_ncode.specs.declared.narrow.NInsn.TheVariants.{Op, Push, Local, Inc, Words, Jump, Switch, Named}

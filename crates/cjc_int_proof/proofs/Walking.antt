@@ -2,11 +2,11 @@
 use Rattle.std.proofs.Common.{◌≡◌, ℕ, zero, suc, ◌+◌, ◌≤◌, List, ◌∷◌, Option, Some, None, refl, ap, subst, ◌∙◌}
 use Rattle.std.proofs.Common.{arith, zero-add}
 use Rattle.std.proofs.Math.Nat.{mul-le-mul_right}
-use Rattle.cjc_ncode.specs.Script.declared.report.Report.{Report}
-use Rattle.cjc_ncode.specs.CardSemantics.Bytecode.Effects.{Effect, Go, Raise, Toss, Invoke, Leave, Stick}
-use Rattle.cjc_ncode.specs.CardSemantics.Bytecode.Machine.{Setting, State, Fetched, Frame, turn_after_fetch, made}
-use Rattle.cjc_ncode.specs.CardSemantics.Bytecode.Machine.{spent_by}
-use Rattle.cjc_ncode.specs.CardSemantics.Bytecode.Runs.{Move, On, Leads, last, first, device, led, Agree}
+use Rattle.cjc_layout.specs.Script.declared.report.Report.{Report}
+use Rattle.cjc_layout.specs.CardSemantics.Bytecode.Effects.{Effect, Go, Raise, Toss, Invoke, Leave, Stick}
+use Rattle.cjc_layout.specs.CardSemantics.Bytecode.Machine.{Setting, State, Fetched, Frame, turn_after_fetch, made}
+use Rattle.cjc_layout.specs.CardSemantics.Bytecode.Machine.{spent_by}
+use Rattle.cjc_layout.specs.CardSemantics.Bytecode.Runs.{Move, On, Leads, last, first, device, led, Agree}
 use Rattle.cjc_int_proof.specs.Walks.{Spot, Walked, Within, Out, and_then, led_by, done_by, step_from, walk, at_spot}
 use Rattle.cjc_int_proof.specs.Walks.{turn_out, LeadsOn, LeadsOut, Splits}
 

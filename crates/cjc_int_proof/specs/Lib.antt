@@ -3,5 +3,5 @@ pub mod LongRuns
 pub mod Labels
 pub mod Operands
 -- Definitions of lower crates, for those above.
-pub mod Types
-pub mod LowerLayout
+pub mod Bytecode
+pub mod Layout

@@ -1,10 +1,10 @@
 -- A machine that makes one instruction or more for each of another's: what is asked of one step, whatever the rows are.
 use Rattle.std.specs.Prelude.{◌≡◌, ◌≢◌, ℕ, suc, ◌+◌, ◌≤◌, List}
-use Rattle.cjc_ncode.specs.Script.declared.report.Outcome.TheVariants.{Running, Stuck}
-use Rattle.cjc_ncode.specs.Script.declared.report.Report.{Report}
-use Rattle.cjc_ncode.specs.CardSemantics.Bytecode.Effects.{Effect}
-use Rattle.cjc_ncode.specs.CardSemantics.Bytecode.Machine.{Setting, State, Frame}
-use Rattle.cjc_ncode.specs.CardSemantics.Bytecode.Runs.{Device, On, Over, Alike, device, led}
+use Rattle.cjc_layout.specs.Script.declared.report.Outcome.TheVariants.{Running, Stuck}
+use Rattle.cjc_layout.specs.Script.declared.report.Report.{Report}
+use Rattle.cjc_layout.specs.CardSemantics.Bytecode.Effects.{Effect}
+use Rattle.cjc_layout.specs.CardSemantics.Bytecode.Machine.{Setting, State, Frame}
+use Rattle.cjc_layout.specs.CardSemantics.Bytecode.Runs.{Device, On, Over, Alike, device, led}
 use Rattle.cjc_int_proof.specs.Walks.{Spot, Within, Out, walk, at_spot, turn_out}
 
 -- W: the couples of states that belong together; `most`: the instructions of the second machine for one of the first;

@@ -1,10 +1,10 @@
 -- What a frame does while no instruction leaves it: from a place on, one instruction behind the other.
 use Rattle.std.specs.Prelude.{◌≡◌, ℕ, zero, suc, ◌+◌, ◌≤◌, List, ◌∷◌, Option, Some, None}
-use Rattle.cjc_ncode.specs.Script.declared.value.Value.{Value}
-use Rattle.cjc_ncode.specs.CardSemantics.Bytecode.Effects.{Memory, Effect, Go, Raise, Toss, Invoke, Leave, Stick}
-use Rattle.cjc_ncode.specs.CardSemantics.Bytecode.Effects.{effect}
-use Rattle.cjc_ncode.specs.CardSemantics.Bytecode.Machine.{Setting, State, Fetched, Frame, Turn, made, spent_by}
-use Rattle.cjc_ncode.specs.CardSemantics.Bytecode.Runs.{On, Leads, device, led}
+use Rattle.cjc_layout.specs.Script.declared.value.Value.{Value}
+use Rattle.cjc_layout.specs.CardSemantics.Bytecode.Effects.{Memory, Effect, Go, Raise, Toss, Invoke, Leave, Stick}
+use Rattle.cjc_layout.specs.CardSemantics.Bytecode.Effects.{effect}
+use Rattle.cjc_layout.specs.CardSemantics.Bytecode.Machine.{Setting, State, Fetched, Frame, Turn, made, spent_by}
+use Rattle.cjc_layout.specs.CardSemantics.Bytecode.Runs.{On, Leads, device, led}
 
 -- where a frame is: its place, its operands with the top first, its locals, and the arrays, objects and static cells
 pub record Spot (C F X : Type 0) : Type 0 where

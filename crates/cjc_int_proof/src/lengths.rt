@@ -1,8 +1,8 @@
 //! How much is written for a method in int mode, and where its labels stand. Laws alone: nothing here runs.
 
 ghost use Rattle.std.specs.Prelude.{◌≡◌, ◌≤◌, ℕ, List, length};
-ghost use Rattle.cjc_ncode.specs.ClassFile.Code.{CodeTree};
-ghost use Rattle.cjc_ncode.specs.Bytecode.declared.insn.JOp.{JOp};
+ghost use Rattle.cjc_types.specs.ClassFile.Code.{CodeTree};
+ghost use Rattle.cjc_types.specs.Bytecode.declared.insn.JOp.{JOp};
 ghost use Rattle.cjc_ncode.specs.Written.{Resolution};
 ghost use Rattle.cjc_ncode.specs.IntCode.IntCode.{Before, Frame, Reached, int_method, place_in, prologue, written};
 ghost use Rattle.cjc_layout.specs.Sizes.{AllLead, widest_size};

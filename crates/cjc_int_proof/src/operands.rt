@@ -2,7 +2,7 @@
 //! say: what laying out and emitting ask of them. Laws alone: nothing here runs.
 
 ghost use Rattle.std.specs.Prelude.{◌≡◌, ◌+◌, ◌*◌, ◌≤◌, ℕ, List, Some, length, slice_get, true, false};
-ghost use Rattle.cjc_ncode.specs.ClassFile.Code.{CodeTree};
+ghost use Rattle.cjc_types.specs.ClassFile.Code.{CodeTree};
 ghost use Rattle.cjc_ncode.specs.Lowering.Laid.{laid};
 ghost use Rattle.cjc_ncode.specs.Lowering.Naming.{Naming};
 ghost use Rattle.cjc_ncode.specs.Lowering.Placed.{IsSpellable};

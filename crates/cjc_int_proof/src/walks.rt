@@ -1,8 +1,8 @@
 //! Instructions that a frame runs one behind the other. Laws alone: nothing here runs.
 
 ghost use Rattle.std.specs.Prelude.{◌≤◌, ℕ};
-ghost use Rattle.cjc_ncode.specs.Script.declared.report.Report.{Report};
-ghost use Rattle.cjc_ncode.specs.CardSemantics.Bytecode.Runs.{Agree};
+ghost use Rattle.cjc_layout.specs.Script.declared.report.Report.{Report};
+ghost use Rattle.cjc_layout.specs.CardSemantics.Bytecode.Runs.{Agree};
 ghost use Rattle.cjc_ncode.specs.declared.narrow.NMethod.{NMethod};
 ghost use Rattle.cjc_ncode.specs.ByLabel.{Named, by_label};
 ghost use Rattle.cjc_int_proof.specs.Walks.{LeadsOn, LeadsOut, Splits};

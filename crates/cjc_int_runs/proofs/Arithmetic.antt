@@ -13,7 +13,7 @@ use Rattle.cjc_range.proofs.Spans.{shr_holds, ushr_holds, to_byte_holds, to_shor
 use Rattle.cjc_range.proofs.Bits.{word_fits, and_holds, or_holds, xor_holds, and_row_fits, or_row_fits}
 use Rattle.cjc_range.proofs.Order.{rem_word, shr_word}
 use Rattle.cjc_range.proofs.OrderBits.{and_word, or_word, ushr_word}
-use Rattle.cjc_ncode.specs.Bytecode.declared.insn.JOp.TheVariants as jop
+use Rattle.cjc_int_proof.specs.Bytecode.declared.insn.JOp.TheVariants as jop
 use Rattle.cjc_script.specs.declared.value.Value.{Value}
 use Rattle.cjc_script.specs.declared.value.Value.TheVariants.{Num}
 use Rattle.cjc_card_semantics.specs.Bytecode.Calculations.{Fails, Fine, int_binary, int_divided, int_words}

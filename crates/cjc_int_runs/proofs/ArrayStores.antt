@@ -9,7 +9,7 @@ use Rattle.cjc_range.specs.Words.{low_word, low_byte}
 use Rattle.cjc_range.specs.Span.{Span, Holds, Within, full}
 use Rattle.cjc_range.proofs.Order.{held_wider}
 use Rattle.cjc_range.proofs.WordsLaws.Words.{low_byte-low_word, low_word_fits, low_word_fixed, wide_ends}
-use Rattle.cjc_ncode.specs.Bytecode.declared.insn.JOp.TheVariants as jop
+use Rattle.cjc_int_proof.specs.Bytecode.declared.insn.JOp.TheVariants as jop
 use Rattle.cjc_script.specs.declared.value.Value.{Value}
 use Rattle.cjc_script.specs.declared.value.Value.TheVariants.{Num}
 use Rattle.cjc_script.specs.Sorts.{Shape, OfNumbers, Booleans}

@@ -6,7 +6,7 @@ use Rattle.std.specs.Prelude.{Option, Some, slice_get, nat_le, ◌==◌, if◌th
 use Rattle.std.proofs.lemmas.Bool.Decides.{nat_tests}
 use Rattle.cjc_range.specs.Span.{Span, Holds, full}
 use Rattle.cjc_range.proofs.Spans.{fits_word}
-use Rattle.cjc_ncode.specs.Bytecode.declared.insn.JOp.TheVariants as jop
+use Rattle.cjc_int_proof.specs.Bytecode.declared.insn.JOp.TheVariants as jop
 use Rattle.cjc_script.specs.declared.value.Value.{Value}
 use Rattle.cjc_script.specs.declared.value.Value.TheVariants.{Num, Null}
 use Rattle.cjc_script.specs.Sorts.{Shape}

@@ -7,8 +7,8 @@ use Rattle.std.specs.Int.{w32}
 use Rattle.std.proofs.lemmas.Bool.Decides.{nat_tests}
 use Rattle.std.proofs.lemmas.List.{length-append}
 use Rattle.std.proofs.lemmas.Int.{ints}
-use Rattle.cjc_narrow_proof.specs.Bytes.declared.fault.MemberId.{MemberId}
-use Rattle.cjc_narrow_proof.specs.Bytes.Spots.{desc_of, bad_at, after}
+use Rattle.cjc_script.specs.Bytes.declared.fault.MemberId.{MemberId}
+use Rattle.cjc_script.specs.Bytes.Spots.{desc_of, bad_at, after}
 use Rattle.cjc_script.proofs.BytesGets.{item_has}
 use Rattle.cjc_script.proofs.BytesLists.{length_mapped}
 use Rattle.cjc_range.specs.Span.{Span, Holds, Within, full, byte_range, short_range}

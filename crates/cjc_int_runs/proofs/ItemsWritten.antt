@@ -4,8 +4,8 @@ use Rattle.std.proofs.Common.{subst, ◌∙◌, arith}
 use Rattle.std.proofs.Common.{Bool, true, ℤ}
 use Rattle.std.specs.Prelude.{Option, Some, map, slice_get, slice_set, if◌then◌else◌}
 use Rattle.std.proofs.lemmas.Int.{ints}
-use Rattle.cjc_narrow_proof.specs.Bytes.declared.fault.MemberId.{MemberId}
-use Rattle.cjc_narrow_proof.specs.Bytes.Spots.{desc_of, bad_at, after}
+use Rattle.cjc_script.specs.Bytes.declared.fault.MemberId.{MemberId}
+use Rattle.cjc_script.specs.Bytes.Spots.{desc_of, bad_at, after}
 use Rattle.cjc_script.proofs.BytesGets.{set_length, map_set}
 use Rattle.cjc_script.proofs.BytesLists.{length_mapped}
 use Rattle.cjc_range.proofs.WordsLaws.Words.{low_byte_ends, low_word_ends}

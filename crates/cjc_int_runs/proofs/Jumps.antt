@@ -6,7 +6,7 @@ use Rattle.std.specs.Prelude.{Option, Some, slice_get, not, ◌==◌, ◌&&◌, 
 use Rattle.std.specs.List.{Contains}
 use Rattle.std.proofs.lemmas.Int.{ints}
 use Rattle.cjc_range.specs.Span.{Span}
-use Rattle.cjc_ncode.specs.Bytecode.declared.insn.JOp.TheVariants as jop
+use Rattle.cjc_int_proof.specs.Bytecode.declared.insn.JOp.TheVariants as jop
 use Rattle.cjc_script.specs.declared.value.Value.{Value}
 use Rattle.cjc_script.specs.declared.value.Value.TheVariants.{Num, Null, Obj}
 use Rattle.cjc_script.specs.Sorts.{Shape}

@@ -12,7 +12,7 @@ use Rattle.cjc_range.specs.Span.{Span, span, Holds, short_range}
 use Rattle.cjc_range.specs.Rows.{add_row}
 use Rattle.cjc_range.proofs.Spans.{add_holds}
 use Rattle.cjc_range.proofs.WordsLaws.Words.{wide_ends}
-use Rattle.cjc_ncode.specs.Bytecode.declared.insn.JOp.TheVariants as jop
+use Rattle.cjc_int_proof.specs.Bytecode.declared.insn.JOp.TheVariants as jop
 use Rattle.cjc_script.specs.declared.value.Value.{Value}
 use Rattle.cjc_script.specs.declared.value.Value.TheVariants.{Num, Null, Obj}
 use Rattle.cjc_script.specs.Sorts.{Shape}

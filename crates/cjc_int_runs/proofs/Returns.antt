@@ -5,7 +5,7 @@ use Rattle.std.specs.Prelude.{Option, Some, None, slice_get}
 use Rattle.cjc_range.specs.Words.{low_word}
 use Rattle.cjc_range.specs.Span.{Span, Within}
 use Rattle.cjc_range.proofs.Order.{held_wider}
-use Rattle.cjc_ncode.specs.Bytecode.declared.insn.JOp.TheVariants as jop
+use Rattle.cjc_int_proof.specs.Bytecode.declared.insn.JOp.TheVariants as jop
 use Rattle.cjc_script.specs.declared.value.Value.{Value}
 use Rattle.cjc_script.specs.declared.value.Value.TheVariants.{Num, Null, Obj}
 use Rattle.cjc_script.specs.Sorts.{Shape, Sort, Boolean, Byte, Short, Int, Reference, NoValue}

@@ -8,8 +8,8 @@ use Rattle.std.proofs.lemmas.Int.{ints}
 use Rattle.cjc_script.proofs.BytesGets.{contained}
 use Rattle.cjc_script.proofs.BytesIntegers.{le_true, le_false}
 use Rattle.cjc_range.specs.Span.{Span}
-use Rattle.cjc_ncode.specs.Bytecode.declared.insn.JCase.{JCase}
-use Rattle.cjc_ncode.specs.Bytecode.declared.insn.JOp.TheVariants as jop
+use Rattle.cjc_int_proof.specs.Bytecode.declared.insn.JCase.{JCase}
+use Rattle.cjc_int_proof.specs.Bytecode.declared.insn.JOp.TheVariants as jop
 use Rattle.cjc_script.specs.declared.value.Value.{Value}
 use Rattle.cjc_script.specs.declared.value.Value.TheVariants.{Num}
 use Rattle.cjc_card_semantics.specs.Bytecode.Meanings.{meaning}

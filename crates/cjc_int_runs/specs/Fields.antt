@@ -1,6 +1,6 @@
 -- What a row that reads a field asks, in int mode: a field of one word or two.
 use Rattle.std.specs.Prelude.{◌≡◌, ℕ, List, Some, Bool, true, false}
-use Rattle.cjc_narrow_proof.specs.Bytes.declared.fault.MemberId.{MemberId}
+use Rattle.cjc_script.specs.Bytes.declared.fault.MemberId.{MemberId}
 use Rattle.cjc_script.specs.Sorts.{Shape, Sort, NoValue, field_sort}
 use Rattle.cjc_ncode.specs.ByLabel.{Named}
 use Rattle.cjc_ncode.specs.Written.{Resolution}

@@ -1,7 +1,7 @@
 -- When a frame of the machine by name, on numbers of 32 bits, and one of code in int mode, on words of 16 bits, agree
 -- before an instruction of the class file. It knows no instruction, and not how a table was made.
 use Rattle.std.specs.Prelude.{◌≡◌, ℕ, ◌*◌, List, [], ◌∷◌, ◌++◌, length, Option, Some, Bool, true, slice_get, ℤ}
-use Rattle.cjc_narrow_proof.specs.Bytes.declared.fault.MemberId.{MemberId}
+use Rattle.cjc_script.specs.Bytes.declared.fault.MemberId.{MemberId}
 use Rattle.cjc_range.specs.Words.{low_word}
 use Rattle.cjc_range.specs.Span.{Span, Holds, byte_range, short_range, full}
 use Rattle.cjc_script.specs.declared.value.Value.{Value}

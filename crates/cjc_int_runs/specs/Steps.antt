@@ -3,8 +3,8 @@
 use Rattle.std.specs.Prelude.{◌≡◌, ℕ, ◌+◌, ◌*◌, ◌≤◌, ◌<◌, List, [], ◌∷◌, ◌++◌, length, map, Option, Some, None, Bool}
 use Rattle.std.specs.Prelude.{true, false, slice_get}
 use Rattle.std.specs.List.{Contains}
-use Rattle.cjc_narrow_proof.specs.Bytes.declared.fault.MemberId.{MemberId}
-use Rattle.cjc_ncode.specs.Bytecode.declared.insn.JOp.{JOp}
+use Rattle.cjc_script.specs.Bytes.declared.fault.MemberId.{MemberId}
+use Rattle.cjc_int_proof.specs.Bytecode.declared.insn.JOp.{JOp}
 use Rattle.cjc_script.specs.declared.value.Value.{Value}
 use Rattle.cjc_script.specs.Sorts.{Sort}
 use Rattle.cjc_card_semantics.specs.Bytecode.Effects.{Slot}

@@ -12,8 +12,8 @@ use Rattle.cjc_range.specs.Span.{Span, IsWord, Within, full}
 use Rattle.cjc_range.specs.Landmarks.{round_row}
 use Rattle.cjc_range.proofs.Order.{within_refl, word_full}
 use Rattle.cjc_range.proofs.Rounding.{round_word, round_monotone}
-use Rattle.cjc_types.specs.LowerClassFile.declared.tree.Catch.{Catch}
-use Rattle.cjc_types.specs.LowerBytecode.declared.insn.JInsn.{JInsn}
+use Rattle.cjc_types.specs.ClassFile.declared.tree.Catch.{Catch}
+use Rattle.cjc_types.specs.Bytecode.declared.insn.JInsn.{JInsn}
 use Rattle.cjc_fixpoint.specs.declared.flow.Edge.{Edge}
 use Rattle.cjc_fixpoint.specs.Dataflow.{IsLawful, AreBelow}
 use Rattle.cjc_fixpoint.specs.Working.Edges.{AreBelowInTurn, below_from_zip, AreBelow-append, AreBelow-map}

@@ -17,8 +17,8 @@ use Rattle.cjc_range.proofs.Order.{rem_monotone, neg_monotone, shl_monotone, shr
 use Rattle.cjc_range.proofs.Order.{to_short_monotone, add_word, sub_word, mul_word, div_word, rem_word, neg_word}
 use Rattle.cjc_range.proofs.Order.{shl_word, shr_word, to_byte_word, to_short_word}
 use Rattle.cjc_range.proofs.OrderBits.{ushr_monotone, and_monotone, or_monotone, ushr_word, and_word, or_word}
-use Rattle.cjc_types.specs.LowerBytecode.declared.insn.JOp.{JOp}
-use Rattle.cjc_types.specs.LowerBytecode.declared.insn.JOp.TheVariants as jop
+use Rattle.cjc_types.specs.Bytecode.declared.insn.JOp.{JOp}
+use Rattle.cjc_types.specs.Bytecode.declared.insn.JOp.TheVariants as jop
 use Rattle.cjc_fixpoint.specs.Lattice.{IsListOf}
 use Rattle.cjc_fixpoint.proofs.Lattices.{zip-slice_set}
 use Rattle.cjc_types.specs.declared.cell.Cell.{Cell}

@@ -5,8 +5,8 @@ use Rattle.cjc_bytes.specs.AccessFlags.{is_static}
 use Rattle.cjc_bytes.specs.declared.fault.MemberId.{MemberId}
 use Rattle.cjc_range.specs.Span.{Span, full}
 use Rattle.cjc_range.specs.Landmarks.{round_row}
-use Rattle.cjc_types.specs.LowerClassFile.declared.tree.Catch.{Catch}
-use Rattle.cjc_types.specs.LowerBytecode.declared.insn.JInsn.{JInsn}
+use Rattle.cjc_types.specs.ClassFile.declared.tree.Catch.{Catch}
+use Rattle.cjc_types.specs.Bytecode.declared.insn.JInsn.{JInsn}
 use Rattle.cjc_fixpoint.specs.declared.flow.Edge.{Edge}
 use Rattle.cjc_fixpoint.specs.Dataflow.{Dataflow}
 use Rattle.cjc_fixpoint.specs.Lattice.{flow_of}

@@ -6,6 +6,6 @@ pub mod Bounds
 pub mod Tables
 pub mod RangeLaws
 -- Definitions of lower crates, for those above.
-pub mod Bytes
-pub mod ClassFile
-pub mod World
+pub mod Fixpoint
+pub mod Bytecode
+pub mod Types

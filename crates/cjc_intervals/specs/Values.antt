@@ -10,7 +10,7 @@ use Rattle.cjc_types.specs.declared.cell.Cell.{Cell}
 use Rattle.cjc_types.specs.declared.cell.Cell.TheVariants.{Number, Refs, Unusable}
 use Rattle.cjc_types.specs.Types.{is_void}
 use Rattle.cjc_types.specs.Rules.{is_array_by}
-use Rattle.cjc_types.specs.LowerBytecode.Jvm as jvm
+use Rattle.cjc_types.specs.Bytecode.Jvm as jvm
 
 -- the numbers of a boolean
 abbrev pub boolean_range : Span

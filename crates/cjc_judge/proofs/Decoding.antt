@@ -10,21 +10,21 @@ use borrow.Author.Count.{below_more}
 use Rattle.cjc_bytes.specs.declared.fault.Fault.{Fault}
 use Rattle.cjc_bytes.specs.declared.fault.Fault.TheVariants as faults
 use Rattle.cjc_bytes.specs.declared.fault.Refusal.{Refusal}
-use Rattle.cjc_vtable.specs.ClassFile.Code.{CodeTree}
-use Rattle.cjc_vtable.specs.ClassFile.Fits.{MethodFits, CodeFits, ClassFits}
-use Rattle.cjc_vtable.specs.ClassFile.declared.tree.MethodTree.{MethodTree}
-use Rattle.cjc_vtable.specs.ClassFile.declared.tree.ClassTree.{ClassTree}
+use Rattle.cjc_world.specs.ClassFile.Code.{CodeTree}
+use Rattle.cjc_world.specs.ClassFile.Fits.{MethodFits, CodeFits, ClassFits}
+use Rattle.cjc_world.specs.ClassFile.declared.tree.MethodTree.{MethodTree}
+use Rattle.cjc_world.specs.ClassFile.declared.tree.ClassTree.{ClassTree}
 use Rattle.cjc_bytes.specs.declared.breaks.BrokenAt.{BrokenAt}
 use Rattle.cjc_bytes.proofs.Gets.{all_at, slice_get_at}
-use Rattle.cjc_vtable.specs.Bytecode.Cut.{cut}
-use Rattle.cjc_vtable.specs.Bytecode.Decoded.{HasCode, least, unless_unfit, unless_unsupported, decoding, of_code}
-use Rattle.cjc_vtable.specs.Bytecode.Decoded.{of_method}
-use Rattle.cjc_vtable.specs.Bytecode.Decoded.{decoding_at, refusal_of}
-use Rattle.cjc_vtable.specs.Bytecode.Named.{all_named}
-use Rattle.cjc_vtable.specs.Bytecode.Unfit.{unfit_code}
-use Rattle.cjc_vtable.specs.Bytecode.declared.insn.JInsn.{JInsn}
-use Rattle.cjc_vtable.specs.Bytecode.declared.method_code.MethodCode.{MethodCode}
-use Rattle.cjc_vtable.specs.Bytecode.PackageCodes.{code_with, where_code, of_methods}
+use Rattle.cjc_clinit.specs.Bytecode.Cut.{cut}
+use Rattle.cjc_clinit.specs.Bytecode.Decoded.{HasCode, least, unless_unfit, unless_unsupported, decoding, of_code}
+use Rattle.cjc_clinit.specs.Bytecode.Decoded.{of_method}
+use Rattle.cjc_clinit.specs.Bytecode.Decoded.{decoding_at, refusal_of}
+use Rattle.cjc_clinit.specs.Bytecode.Named.{all_named}
+use Rattle.cjc_clinit.specs.Bytecode.Unfit.{unfit_code}
+use Rattle.cjc_clinit.specs.Bytecode.declared.insn.JInsn.{JInsn}
+use Rattle.cjc_clinit.specs.Bytecode.declared.method_code.MethodCode.{MethodCode}
+use Rattle.cjc_clinit.specs.Bytecode.PackageCodes.{code_with, where_code, of_methods}
 use Rattle.cjc_judge.specs.Codes.{unsupported_with}
 use Rattle.cjc_judge.specs.Rules.{CodeBreaks}
 use Rattle.cjc_judge.proofs.Items.{front_more}

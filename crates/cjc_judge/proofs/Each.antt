@@ -4,9 +4,9 @@ use Rattle.std.proofs.Common.{arith}
 use Rattle.std.specs.Prelude.{map, slice_get}
 use Rattle.cjc_bytes.specs.Breaks.{Break, Among, foremost, after, RulePlace, at, broken_at, each_from}
 use Rattle.cjc_bytes.specs.Order.{FilePlace, file_of}
-use Rattle.cjc_vtable.specs.ClassFile.declared.tree.ClassTree.{ClassTree}
-use Rattle.cjc_vtable.specs.ClassFile.declared.tree.MethodTree.{MethodTree}
-use Rattle.cjc_vtable.specs.Subset.Places.{of_method, of_class, of_code}
+use Rattle.cjc_world.specs.ClassFile.declared.tree.ClassTree.{ClassTree}
+use Rattle.cjc_world.specs.ClassFile.declared.tree.MethodTree.{MethodTree}
+use Rattle.cjc_clinit.specs.Subset.Places.{of_method, of_class, of_code}
 use Rattle.cjc_world.specs.Files.{Files}
 
 pub record Each (P : Break → Type 0) (bs : List Break) : Type 0 where

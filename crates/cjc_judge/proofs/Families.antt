@@ -3,33 +3,33 @@ use Rattle.std.proofs.Common.{◌≡◌, ℕ, ◌+◌, ◌≤◌, Bool, true, fa
 use Rattle.std.specs.Prelude.{◌/◌, if◌then◌else◌}
 use Rattle.cjc_bytes.specs.declared.settings.FileLine.{FileLine}
 use Rattle.cjc_bytes.specs.declared.settings.Settings.{Settings}
-use Rattle.cjc_vtable.specs.ClassFile.declared.tree.Catch.{Catch}
-use Rattle.cjc_vtable.specs.ClassFile.declared.tree.ClassTree.{ClassTree}
-use Rattle.cjc_vtable.specs.ClassFile.declared.tree.FieldTree.{FieldTree}
-use Rattle.cjc_vtable.specs.ClassFile.declared.tree.MethodTree.{MethodTree}
-use Rattle.cjc_vtable.specs.Bytecode.declared.insn.JInsn.{JInsn}
-use Rattle.cjc_vtable.specs.Bytecode.declared.insn.JOp.{JOp}
-use Rattle.cjc_vtable.specs.Bytecode.declared.method_code.MethodCode.{MethodCode}
+use Rattle.cjc_world.specs.ClassFile.declared.tree.Catch.{Catch}
+use Rattle.cjc_world.specs.ClassFile.declared.tree.ClassTree.{ClassTree}
+use Rattle.cjc_world.specs.ClassFile.declared.tree.FieldTree.{FieldTree}
+use Rattle.cjc_world.specs.ClassFile.declared.tree.MethodTree.{MethodTree}
+use Rattle.cjc_clinit.specs.Bytecode.declared.insn.JInsn.{JInsn}
+use Rattle.cjc_clinit.specs.Bytecode.declared.insn.JOp.{JOp}
+use Rattle.cjc_clinit.specs.Bytecode.declared.method_code.MethodCode.{MethodCode}
 use Rattle.cjc_world.specs.Classes.{Class, all_classes, declared, imported}
 use Rattle.cjc_world.specs.Files.{Files}
-use Rattle.cjc_vtable.specs.ExportFile.declared.tree.ExportClass.{ExportClass}
+use Rattle.cjc_world.specs.ExportFile.declared.tree.ExportClass.{ExportClass}
 use Rattle.cjc_bytes.specs.Breaks.{Break, broken_at, each}
-use Rattle.cjc_vtable.specs.Subset.Places.{at_method}
+use Rattle.cjc_clinit.specs.Subset.Places.{at_method}
 use Rattle.cjc_bytes.specs.Order.{FilePlace, file_of}
-use Rattle.cjc_vtable.specs.Subset.Names.{insn_breaks, catch_breaks, catches_of, method_breaks, code_breaks}
-use Rattle.cjc_vtable.specs.Subset.Names.{name_breaks}
-use Rattle.cjc_vtable.specs.Subset.Checks as checks
-use Rattle.cjc_vtable.specs.Subset.Exports.{export_breaks, export_file_of, listed_class_breaks}
-use Rattle.cjc_vtable.specs.Subset.Overriding.{is_inherited, method_against, class_against, supertype_breaks}
-use Rattle.cjc_vtable.specs.Subset.Overriding.{overriding_breaks}
-use Rattle.cjc_vtable.specs.Tokens.Rules.{breaks_from, breaks_where, has_high_token, is_few, tested_breaks}
-use Rattle.cjc_vtable.specs.Tokens.Rules.{token_breaks}
-use Rattle.cjc_vtable.specs.Tokens.Rules.{at_class as token_at_class}
+use Rattle.cjc_clinit.specs.Subset.Names.{insn_breaks, catch_breaks, catches_of, method_breaks, code_breaks}
+use Rattle.cjc_clinit.specs.Subset.Names.{name_breaks}
+use Rattle.cjc_clinit.specs.Subset.Checks as checks
+use Rattle.cjc_clinit.specs.Subset.Exports.{export_breaks, export_file_of, listed_class_breaks}
+use Rattle.cjc_clinit.specs.Subset.Overriding.{is_inherited, method_against, class_against, supertype_breaks}
+use Rattle.cjc_clinit.specs.Subset.Overriding.{overriding_breaks}
+use Rattle.cjc_vtable.specs.LowerTokens.Rules.{breaks_from, breaks_where, has_high_token, is_few, tested_breaks}
+use Rattle.cjc_vtable.specs.LowerTokens.Rules.{token_breaks}
+use Rattle.cjc_vtable.specs.LowerTokens.Rules.{at_class as token_at_class}
 use Rattle.cjc_world.specs.Exported.{is_exported}
 use Rattle.cjc_judge.proofs.RangesLaws.Hundred.{of_sixth_hundred}
-use Rattle.cjc_flow.specs.Types.declared.state.State.{State}
-use Rattle.cjc_flow.specs.Types.Flow.{Body}
-use Rattle.cjc_flow.specs.Types.Rules.{Breaks, clash, wrong, off}
+use Rattle.cjc_narrow.specs.Types.declared.state.State.{State}
+use Rattle.cjc_narrow.specs.Types.Flow.{Body}
+use Rattle.cjc_narrow.specs.Types.Rules.{Breaks, clash, wrong, off}
 use Rattle.cjc_judge.specs.declared.reading.UnsupportedInsn.{UnsupportedInsn}
 use Rattle.cjc_judge.specs.Rules.{unsupported_break, unsupported_breaks, BreaksType, BreaksRange}
 use Rattle.cjc_judge.proofs.Each.{Each, each_none, each_more, each_append, each_at, each_of, each_code}

@@ -13,17 +13,17 @@ use Rattle.cjc_bytes.specs.Format.{FileSpells, FileBreaks}
 use Rattle.cjc_bytes.specs.declared.settings.FileLine.{FileLine}
 use Rattle.cjc_bytes.proofs.Laws.{one_value, one_place, spelt_or_broken}
 use Rattle.cjc_bytes.proofs.Inverse.{InBytes}
-use Rattle.cjc_vtable.specs.ClassFile.ClassFile.{class_file, refusal_at}
-use Rattle.cjc_vtable.specs.ClassFile.Fits.{ClassFits}
-use Rattle.cjc_vtable.specs.ClassFile.declared.tree.ClassTree.{ClassTree}
+use Rattle.cjc_world.specs.ClassFile.ClassFile.{class_file, refusal_at}
+use Rattle.cjc_world.specs.ClassFile.Fits.{ClassFits}
+use Rattle.cjc_world.specs.ClassFile.declared.tree.ClassTree.{ClassTree}
 use Rattle.cjc_world.proofs.ClassFileFitting.{spelt_fits}
 use Rattle.cjc_bytes.specs.declared.breaks.BrokenAt.{BrokenAt}
-use Rattle.cjc_vtable.specs.Bytecode.declared.method_code.MethodCode.{MethodCode}
-use Rattle.cjc_vtable.specs.ExportFile.ExportFile.{export_file}
-use Rattle.cjc_vtable.specs.ExportFile.Writable.{IsWritable}
-use Rattle.cjc_vtable.specs.ExportFile.declared.tree.ExportTree.{ExportTree}
-use Rattle.cjc_vtable.specs.Bytecode.declared.insn.JInsn.{JInsn}
-use Rattle.cjc_vtable.specs.Bytecode.PackageCodes.{code_with, of_methods, of_classes}
+use Rattle.cjc_clinit.specs.Bytecode.declared.method_code.MethodCode.{MethodCode}
+use Rattle.cjc_world.specs.ExportFile.ExportFile.{export_file}
+use Rattle.cjc_world.specs.ExportFile.Writable.{IsWritable}
+use Rattle.cjc_world.specs.ExportFile.declared.tree.ExportTree.{ExportTree}
+use Rattle.cjc_clinit.specs.Bytecode.declared.insn.JInsn.{JInsn}
+use Rattle.cjc_clinit.specs.Bytecode.PackageCodes.{code_with, of_methods, of_classes}
 use Rattle.cjc_judge.specs.Codes.{unsupported_with}
 use Rattle.cjc_judge.specs.declared.reading.UnsupportedInsn.{UnsupportedInsn}
 use Rattle.cjc_bytes.specs.Order.{NotAfter}

@@ -9,10 +9,10 @@ use Rattle.cjc_bytes.specs.declared.fault.Refusal.{Refusal}
 use Rattle.cjc_bytes.specs.declared.settings.FileLine.{FileLine}
 use Rattle.std.proofs.lemmas.Option.{slice_get_within}
 use Rattle.cjc_bytes.proofs.Laws.{one_value}
-use Rattle.cjc_vtable.specs.ClassFile.ClassFile.{class_file}
-use Rattle.cjc_vtable.specs.ClassFile.declared.tree.ClassTree.{ClassTree}
-use Rattle.cjc_vtable.specs.ExportFile.ExportFile.{export_file}
-use Rattle.cjc_vtable.specs.ExportFile.declared.tree.ExportTree.{ExportTree}
+use Rattle.cjc_world.specs.ClassFile.ClassFile.{class_file}
+use Rattle.cjc_world.specs.ClassFile.declared.tree.ClassTree.{ClassTree}
+use Rattle.cjc_world.specs.ExportFile.ExportFile.{export_file}
+use Rattle.cjc_world.specs.ExportFile.declared.tree.ExportTree.{ExportTree}
 use Rattle.cjc_list.specs.Listed.{ListTree}
 use Rattle.cjc_world.specs.Classes.{Class, Member, declared, numbered, size, all_classes}
 use Rattle.cjc_world.specs.Files.{Files}
@@ -34,13 +34,13 @@ use Rattle.cjc_judge.specs.declared.groups.Group.{Group}
 use Rattle.cjc_judge.specs.declared.groups.Group.TheVariants as groups
 use Rattle.cjc_judge.specs.Working.Groups.{WorldBreaks}
 use Rattle.cjc_judge.specs.Trees.{FileIs, AllSpelt}
-use Rattle.cjc_vtable.specs.Subset.Names.{name_breaks}
-use Rattle.cjc_vtable.specs.Bytecode.PackageCodes.{all_codes}
+use Rattle.cjc_clinit.specs.Subset.Names.{name_breaks}
+use Rattle.cjc_clinit.specs.Bytecode.PackageCodes.{all_codes}
 use Rattle.cjc_judge.specs.Codes.{all_unsupported_insns}
-use Rattle.cjc_vtable.specs.Subset.Checks.{check_breaks}
-use Rattle.cjc_vtable.specs.Subset.Places.{at_class as at_spot}
-use Rattle.cjc_vtable.specs.Tokens.Rules.{tested_breaks}
-use Rattle.cjc_vtable.specs.Tokens.Rules as tokens
+use Rattle.cjc_clinit.specs.Subset.Checks.{check_breaks}
+use Rattle.cjc_clinit.specs.Subset.Places.{at_class as at_spot}
+use Rattle.cjc_vtable.specs.LowerTokens.Rules.{tested_breaks}
+use Rattle.cjc_vtable.specs.LowerTokens.Rules as tokens
 use Rattle.cjc_judge.proofs.Each.{Each, each_none, each_more, each_append}
 use Rattle.cjc_judge.proofs.Families.{IsSecond, IsLanguage, names_second, unsupported_insns_third, checks_language}
 use Rattle.cjc_judge.proofs.Families.{tokens_fourth, type_fifth, range_sixth}

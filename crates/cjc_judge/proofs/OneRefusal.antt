@@ -10,10 +10,10 @@ use Rattle.cjc_bytes.specs.Refused.{refused_at, refusal}
 use Rattle.cjc_bytes.proofs.Laws.{one_value, one_place, spelt_or_broken}
 use Rattle.cjc_bytes.proofs.Plain.{no_true}
 use Rattle.cjc_bytes.proofs.Lists.{same_rank}
-use Rattle.cjc_vtable.specs.ClassFile.ClassFile.{class_file, refusal_at}
-use Rattle.cjc_vtable.specs.ClassFile.declared.tree.ClassTree.{ClassTree}
-use Rattle.cjc_vtable.specs.Bytecode.PackageCodes.{all_codes}
-use Rattle.cjc_vtable.specs.ExportFile.ExportFile.{export_file}
+use Rattle.cjc_world.specs.ClassFile.ClassFile.{class_file, refusal_at}
+use Rattle.cjc_world.specs.ClassFile.declared.tree.ClassTree.{ClassTree}
+use Rattle.cjc_clinit.specs.Bytecode.PackageCodes.{all_codes}
+use Rattle.cjc_world.specs.ExportFile.ExportFile.{export_file}
 use Rattle.cjc_list.specs.Listed.{ListTree}
 use Rattle.cjc_judge.specs.OutOfRange.{IsOutOfRange}
 use Rattle.cjc_judge.specs.Codes.{all_unsupported_insns}

@@ -5,17 +5,17 @@ use Rattle.std.specs.Prelude.{slice_get}
 use Rattle.std.specs.List.{AllByRecursion}
 use Rattle.std.proofs.lemmas.List.Elements.{All-nil, All-cons, All-append}
 use Rattle.cjc_bytes.specs.declared.settings.FileLine.{FileLine}
-use Rattle.cjc_vtable.specs.ClassFile.Code.{CodeTree}
-use Rattle.cjc_vtable.specs.ClassFile.Fits.{MethodFits, CodeFits, ClassFits}
-use Rattle.cjc_vtable.specs.ClassFile.declared.tree.ClassTree.{ClassTree}
-use Rattle.cjc_vtable.specs.ClassFile.declared.tree.MethodTree.{MethodTree}
+use Rattle.cjc_world.specs.ClassFile.Code.{CodeTree}
+use Rattle.cjc_world.specs.ClassFile.Fits.{MethodFits, CodeFits, ClassFits}
+use Rattle.cjc_world.specs.ClassFile.declared.tree.ClassTree.{ClassTree}
+use Rattle.cjc_world.specs.ClassFile.declared.tree.MethodTree.{MethodTree}
 use Rattle.cjc_bytes.specs.declared.breaks.BrokenAt.{BrokenAt}
 use Rattle.cjc_bytes.proofs.Gets.{head_at}
-use Rattle.cjc_vtable.specs.Bytecode.Decoded.{decoding, of_code, of_method, decoding_at}
-use Rattle.cjc_vtable.specs.Bytecode.declared.insn.JInsn.{JInsn}
-use Rattle.cjc_flow.specs.Types.Tables.{IsOfPackage}
+use Rattle.cjc_clinit.specs.Bytecode.Decoded.{decoding, of_code, of_method, decoding_at}
+use Rattle.cjc_clinit.specs.Bytecode.declared.insn.JInsn.{JInsn}
+use Rattle.cjc_narrow.specs.Types.Tables.{IsOfPackage}
 use Rattle.cjc_world.specs.Files.{Files}
-use Rattle.cjc_vtable.specs.Bytecode.PackageCodes.{code_with, where_code, of_methods, of_classes, all_codes}
+use Rattle.cjc_clinit.specs.Bytecode.PackageCodes.{code_with, where_code, of_methods, of_classes, all_codes}
 use Rattle.cjc_judge.specs.Spelt.{FileTree, of_class, of_export, classes_of}
 use Rattle.cjc_judge.specs.Trees.{AllSpelt}
 

@@ -10,16 +10,16 @@ use Rattle.cjc_bytes.specs.Breaks.{Break, broken_at, class_spot, list_spot, memb
 use Rattle.cjc_bytes.specs.Order.{FilePlace, Rank, file_from}
 use Rattle.cjc_bytes.specs.Refused.{refused_at, in_class, field_text, method_text}
 use Rattle.cjc_bytes.proofs.Gets.{in_front, item_there}
-use Rattle.cjc_vtable.specs.ClassFile.declared.tree.ClassTree.{ClassTree}
-use Rattle.cjc_vtable.specs.ClassFile.declared.tree.FieldTree.{FieldTree}
-use Rattle.cjc_vtable.specs.ClassFile.declared.tree.MethodTree.{MethodTree}
-use Rattle.cjc_vtable.specs.Subset.Exports.{export_file_from, export_file_of}
-use Rattle.cjc_vtable.specs.Subset.Places.{at_class, at_field, at_method}
+use Rattle.cjc_world.specs.ClassFile.declared.tree.ClassTree.{ClassTree}
+use Rattle.cjc_world.specs.ClassFile.declared.tree.FieldTree.{FieldTree}
+use Rattle.cjc_world.specs.ClassFile.declared.tree.MethodTree.{MethodTree}
+use Rattle.cjc_clinit.specs.Subset.Exports.{export_file_from, export_file_of}
+use Rattle.cjc_clinit.specs.Subset.Places.{at_class, at_field, at_method}
 use Rattle.cjc_world.specs.Classes.{Class, Member, declared, field_of_class, field_of_export, imported, method_of_class}
 use Rattle.cjc_world.specs.Classes.{method_of_export, numbered, of_class_file, of_export_file, size}
-use Rattle.cjc_vtable.specs.ExportFile.declared.tree.ExportClass.{ExportClass}
-use Rattle.cjc_vtable.specs.ExportFile.declared.tree.ExportMethod.{ExportMethod}
-use Rattle.cjc_vtable.specs.ExportFile.declared.tree.ExportTree.{ExportTree}
+use Rattle.cjc_world.specs.ExportFile.declared.tree.ExportClass.{ExportClass}
+use Rattle.cjc_world.specs.ExportFile.declared.tree.ExportMethod.{ExportMethod}
+use Rattle.cjc_world.specs.ExportFile.declared.tree.ExportTree.{ExportTree}
 use Rattle.cjc_world.specs.Files.{Files}
 
 -- ---- what stands at a place of the order

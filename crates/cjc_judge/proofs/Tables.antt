@@ -3,9 +3,9 @@ use Rattle.std.proofs.Common.{◌≡◌, ℕ, zero, suc, ◌+◌, ◌<◌, ◌�
 use Rattle.std.proofs.Common.{get_or, take, refl, sym, ap, subst, arith}
 use Rattle.std.specs.Prelude.{option_map, slice_get}
 use Rattle.std.proofs.lemmas.List.{take_all}
-use Rattle.cjc_vtable.specs.Bytecode.declared.method_code.MethodCode.{MethodCode}
+use Rattle.cjc_clinit.specs.Bytecode.declared.method_code.MethodCode.{MethodCode}
 use Rattle.cjc_bytes.specs.Breaks.{IsFirstOf}
-use Rattle.cjc_flow.specs.Types.declared.table.TypeTable.{TypeTable}
+use Rattle.cjc_narrow.specs.Types.declared.table.TypeTable.{TypeTable}
 use Rattle.cjc_world.specs.Files.{Files}
 use Rattle.cjc_bytes.specs.Breaks.{Break, Among}
 use Rattle.cjc_bytes.proofs.BrokenRules.{among_left, among_right, no_among}

@@ -5,32 +5,32 @@ use Rattle.std.specs.Prelude.{not, slice_get, if◌then◌else◌}
 use Rattle.std.proofs.lemmas.Option.{slice_get_within}
 use Rattle.cjc_bytes.specs.declared.breaks.BrokenAt.{BrokenAt}
 use Rattle.cjc_bytes.specs.declared.settings.Settings.{Settings}
-use Rattle.cjc_flow.specs.Types.Flow.{Body}
+use Rattle.cjc_narrow.specs.Types.Flow.{Body}
 use Rattle.cjc_bytes.specs.Breaks.{Break, at, broken_at, class_spot, each, list_spot, member_spot}
 use Rattle.cjc_bytes.specs.Order.{FilePlace, file_of}
 use Rattle.cjc_bytes.specs.Refused.{method_text}
-use Rattle.cjc_vtable.specs.ClassFile.declared.tree.Catch.{Catch}
-use Rattle.cjc_vtable.specs.ClassFile.declared.tree.ClassTree.{ClassTree}
-use Rattle.cjc_vtable.specs.ClassFile.declared.tree.FieldTree.{FieldTree}
-use Rattle.cjc_vtable.specs.ClassFile.declared.tree.MethodTree.{MethodTree}
-use Rattle.cjc_vtable.specs.Bytecode.declared.insn.JInsn.{JInsn}
-use Rattle.cjc_vtable.specs.Bytecode.declared.method_code.MethodCode.{MethodCode}
-use Rattle.cjc_vtable.specs.Subset.Checks as checks
-use Rattle.cjc_vtable.specs.Subset.Exports.{export_breaks, export_file_of, is_class_name, is_of_objects}
-use Rattle.cjc_vtable.specs.Subset.Exports.{is_unfit_listed, listed_class_breaks}
-use Rattle.cjc_vtable.specs.Subset.Names.{insn_breaks, catch_breaks, catches_of, method_breaks, code_breaks}
-use Rattle.cjc_vtable.specs.Subset.Names.{name_breaks}
-use Rattle.cjc_vtable.specs.Subset.Overriding.{is_inherited, method_against, class_against, supertype_breaks}
-use Rattle.cjc_vtable.specs.Subset.Overriding.{overriding_breaks}
-use Rattle.cjc_vtable.specs.Subset.Places.{at_class, at_field, at_method}
-use Rattle.cjc_vtable.specs.Tokens.Rules.{breaks_from, breaks_where, has_high_token, is_few, tested_breaks}
-use Rattle.cjc_vtable.specs.Tokens.Rules.{token_breaks}
-use Rattle.cjc_vtable.specs.Tokens.Rules.{at_class as token_at_class}
+use Rattle.cjc_world.specs.ClassFile.declared.tree.Catch.{Catch}
+use Rattle.cjc_world.specs.ClassFile.declared.tree.ClassTree.{ClassTree}
+use Rattle.cjc_world.specs.ClassFile.declared.tree.FieldTree.{FieldTree}
+use Rattle.cjc_world.specs.ClassFile.declared.tree.MethodTree.{MethodTree}
+use Rattle.cjc_clinit.specs.Bytecode.declared.insn.JInsn.{JInsn}
+use Rattle.cjc_clinit.specs.Bytecode.declared.method_code.MethodCode.{MethodCode}
+use Rattle.cjc_clinit.specs.Subset.Checks as checks
+use Rattle.cjc_clinit.specs.Subset.Exports.{export_breaks, export_file_of, is_class_name, is_of_objects}
+use Rattle.cjc_clinit.specs.Subset.Exports.{is_unfit_listed, listed_class_breaks}
+use Rattle.cjc_clinit.specs.Subset.Names.{insn_breaks, catch_breaks, catches_of, method_breaks, code_breaks}
+use Rattle.cjc_clinit.specs.Subset.Names.{name_breaks}
+use Rattle.cjc_clinit.specs.Subset.Overriding.{is_inherited, method_against, class_against, supertype_breaks}
+use Rattle.cjc_clinit.specs.Subset.Overriding.{overriding_breaks}
+use Rattle.cjc_clinit.specs.Subset.Places.{at_class, at_field, at_method}
+use Rattle.cjc_vtable.specs.LowerTokens.Rules.{breaks_from, breaks_where, has_high_token, is_few, tested_breaks}
+use Rattle.cjc_vtable.specs.LowerTokens.Rules.{token_breaks}
+use Rattle.cjc_vtable.specs.LowerTokens.Rules.{at_class as token_at_class}
 use Rattle.cjc_world.specs.Classes.{Class, all_classes, declared, imported}
 use Rattle.cjc_world.specs.Exported.{is_exported}
 use Rattle.cjc_world.specs.Files.{Files}
-use Rattle.cjc_vtable.specs.ExportFile.declared.tree.ExportClass.{ExportClass}
-use Rattle.cjc_vtable.specs.ExportFile.declared.tree.ExportTree.{ExportTree}
+use Rattle.cjc_world.specs.ExportFile.declared.tree.ExportClass.{ExportClass}
+use Rattle.cjc_world.specs.ExportFile.declared.tree.ExportTree.{ExportTree}
 use Rattle.cjc_clinit.specs.Rules.{BreaksImage, of_class, of_code}
 use Rattle.cjc_judge.specs.declared.reading.UnsupportedInsn.{UnsupportedInsn}
 use Rattle.cjc_judge.specs.Rules.{unsupported_break, unsupported_breaks, BreaksMethod}

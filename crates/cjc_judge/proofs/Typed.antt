@@ -3,16 +3,16 @@ use Rattle.std.proofs.Common.{◌≡◌, ◌⊎◌, inl, inr, [], ◌∷◌, Som
 use Rattle.std.proofs.Common.{refl, sym, ap, subst, ◌∙◌}
 use Rattle.std.specs.Prelude.{slice_get}
 use Rattle.cjc_bytes.specs.declared.breaks.BrokenAt.{BrokenAt}
-use Rattle.cjc_vtable.specs.ClassFile.Code.{CodeTree}
-use Rattle.cjc_vtable.specs.ClassFile.declared.tree.ClassTree.{ClassTree}
-use Rattle.cjc_vtable.specs.ClassFile.declared.tree.MethodTree.{MethodTree}
-use Rattle.cjc_vtable.specs.Bytecode.declared.method_code.MethodCode.{MethodCode}
+use Rattle.cjc_world.specs.ClassFile.Code.{CodeTree}
+use Rattle.cjc_world.specs.ClassFile.declared.tree.ClassTree.{ClassTree}
+use Rattle.cjc_world.specs.ClassFile.declared.tree.MethodTree.{MethodTree}
+use Rattle.cjc_clinit.specs.Bytecode.declared.method_code.MethodCode.{MethodCode}
 use Rattle.cjc_bytes.specs.Breaks.{IsFirstOf, Break, Among, foremost, after}
-use Rattle.cjc_flow.specs.Types.declared.inference.InferError.{InferError}
-use Rattle.cjc_flow.specs.Types.declared.inference.InferError.TheVariants as errors
-use Rattle.cjc_flow.specs.Types.declared.table.TypeTable.{TypeTable}
-use Rattle.cjc_flow.specs.Types.Flow.{Body, body_of}
-use Rattle.cjc_flow.specs.Types.Tables.{IsMethodOf, IsAnswer}
+use Rattle.cjc_narrow.specs.Types.declared.inference.InferError.{InferError}
+use Rattle.cjc_narrow.specs.Types.declared.inference.InferError.TheVariants as errors
+use Rattle.cjc_narrow.specs.Types.declared.table.TypeTable.{TypeTable}
+use Rattle.cjc_narrow.specs.Types.Flow.{Body, body_of}
+use Rattle.cjc_narrow.specs.Types.Tables.{IsMethodOf, IsAnswer}
 use Rattle.cjc_world.specs.Files.{Files}
 use Rattle.cjc_judge.specs.Rules.{method_break, BreaksMethod, IsFirstIn}
 use Rattle.cjc_bytes.proofs.Firsts.{first_of_one}

@@ -1,9 +1,9 @@
 -- Where the methods of a package break rule 303.
 use Rattle.std.specs.Prelude.{ℕ, ◌==◌, List, [], ◌∷◌, if◌then◌else◌, Result, Ok, Err}
-use Rattle.cjc_vtable.specs.ClassFile.declared.tree.ClassTree.{ClassTree}
+use Rattle.cjc_world.specs.ClassFile.declared.tree.ClassTree.{ClassTree}
 use Rattle.cjc_bytes.specs.declared.breaks.BrokenAt.{BrokenAt}
-use Rattle.cjc_vtable.specs.Bytecode.declared.insn.JInsn.{JInsn}
-use Rattle.cjc_vtable.specs.Bytecode.PackageCodes.{of_classes}
+use Rattle.cjc_clinit.specs.Bytecode.declared.insn.JInsn.{JInsn}
+use Rattle.cjc_clinit.specs.Bytecode.PackageCodes.{of_classes}
 use Rattle.cjc_judge.specs.declared.reading.UnsupportedInsn.{UnsupportedInsn}
 
 -- the place of the first instruction of a method that is not converted, where 103 is not broken (rule 303)

@@ -1,6 +1,6 @@
 -- What the files of several packages spell, where they are read once more for a world of all of them.
 use Rattle.std.specs.Prelude.{◌≡◌, List}
-use Rattle.cjc_vtable.specs.Bytecode.PackageCodes.{all_codes}
+use Rattle.cjc_clinit.specs.Bytecode.PackageCodes.{all_codes}
 use Rattle.cjc_judge.specs.Spelt.{FileTree, classes_of, exports_of}
 use Rattle.cjc_judge.specs.declared.joint.JointTrees.{JointTrees}
 

@@ -4,7 +4,7 @@ use Rattle.cjc_bytes.specs.declared.fault.Fault.{Fault}
 use Rattle.cjc_bytes.specs.declared.fault.Fault.TheVariants as faults
 use Rattle.cjc_bytes.specs.declared.fault.Refusal.{Refusal}
 use Rattle.cjc_list.specs.Listed.{ListTree}
-use Rattle.cjc_flow.specs.Types.Tables.{IsOfPackage}
+use Rattle.cjc_narrow.specs.Types.Tables.{IsOfPackage}
 use Rattle.cjc_bytes.specs.Breaks.{Break}
 use Rattle.cjc_judge.specs.declared.groups.Group.{Group}
 use Rattle.cjc_judge.specs.declared.judged.Judged.{Judged}

@@ -8,7 +8,6 @@ pub mod Joint
 pub mod Working
 pub mod OutOfRange
 -- Definitions of lower crates, for those above.
-pub mod Bytes
-pub mod List
-pub mod Clinit
-pub mod Flow
+pub mod World
+pub mod LowerClinit
+pub mod LowerFlow

@@ -2,11 +2,11 @@
 use Rattle.std.specs.Prelude.{ℕ, List, Option, ℤ}
 use Rattle.cjc_bytes.specs.declared.breaks.BrokenAt.{BrokenAt}
 use Rattle.cjc_bytes.specs.declared.fault.MemberId.{MemberId}
-use Rattle.cjc_flow.specs.Types.declared.state.State.{State}
-use Rattle.cjc_flow.specs.Types.Flow.{Body}
-use Rattle.cjc_flow.specs.Types.Tables.{IsLeastTable, Breach}
-use Rattle.cjc_flow.specs.Intervals.Frames.{RangeState}
-use Rattle.cjc_flow.specs.Intervals.Tables.{IsLeastRanges}
+use Rattle.cjc_narrow.specs.Types.declared.state.State.{State}
+use Rattle.cjc_narrow.specs.Types.Flow.{Body}
+use Rattle.cjc_narrow.specs.Types.Tables.{IsLeastTable, Breach}
+use Rattle.cjc_flow.specs.LowerIntervals.Frames.{RangeState}
+use Rattle.cjc_flow.specs.LowerIntervals.Tables.{IsLeastRanges}
 use Rattle.cjc_flow.specs.Tests.Answers.{IsFirstBroken}
 use Rattle.cjc_world.specs.Classes.{all_classes}
 use Rattle.cjc_world.specs.Files.{Files}

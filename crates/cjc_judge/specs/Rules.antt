@@ -9,15 +9,15 @@ use Rattle.cjc_bytes.specs.declared.fault.Fault.TheVariants as faults
 use Rattle.cjc_bytes.specs.declared.fault.Refusal.{Refusal}
 use Rattle.cjc_bytes.specs.declared.settings.FileLine.{FileLine}
 use Rattle.cjc_bytes.specs.declared.settings.Settings.{Settings}
-use Rattle.cjc_vtable.specs.ClassFile.ClassFile.{class_file, refusal_at}
-use Rattle.cjc_vtable.specs.ClassFile.Code.{CodeTree}
-use Rattle.cjc_vtable.specs.ClassFile.declared.tree.ClassTree.{ClassTree}
-use Rattle.cjc_vtable.specs.ClassFile.declared.tree.MethodTree.{MethodTree}
-use Rattle.cjc_vtable.specs.Bytecode.declared.method_code.MethodCode.{MethodCode}
-use Rattle.cjc_vtable.specs.Bytecode.Decoded.{decoding_at}
-use Rattle.cjc_vtable.specs.Bytecode.Decoded as decoded
-use Rattle.cjc_vtable.specs.ExportFile.ExportFile.{export_file}
-use Rattle.cjc_vtable.specs.ExportFile.declared.tree.ExportTree.{ExportTree}
+use Rattle.cjc_world.specs.ClassFile.ClassFile.{class_file, refusal_at}
+use Rattle.cjc_world.specs.ClassFile.Code.{CodeTree}
+use Rattle.cjc_world.specs.ClassFile.declared.tree.ClassTree.{ClassTree}
+use Rattle.cjc_world.specs.ClassFile.declared.tree.MethodTree.{MethodTree}
+use Rattle.cjc_clinit.specs.Bytecode.declared.method_code.MethodCode.{MethodCode}
+use Rattle.cjc_clinit.specs.Bytecode.Decoded.{decoding_at}
+use Rattle.cjc_clinit.specs.Bytecode.Decoded as decoded
+use Rattle.cjc_world.specs.ExportFile.ExportFile.{export_file}
+use Rattle.cjc_world.specs.ExportFile.declared.tree.ExportTree.{ExportTree}
 use Rattle.cjc_list.specs.Listed.{ListTree}
 use Rattle.cjc_world.specs.Classes.{all_classes}
 use Rattle.cjc_world.specs.Files.{Files, files_of}
@@ -25,15 +25,15 @@ use Rattle.cjc_world.specs.Rules.{breaks}
 use Rattle.cjc_bytes.specs.Breaks.{Break, Among, broken_at, each, IsFirstOf as FirstOfList}
 use Rattle.cjc_bytes.specs.declared.order.FileKey.TheVariants as keys
 use Rattle.cjc_bytes.specs.Order.{Rank, NotAfter, file_number, file_of}
-use Rattle.cjc_vtable.specs.Subset.Names.{name_breaks}
-use Rattle.cjc_vtable.specs.Subset.Checks.{check_breaks}
+use Rattle.cjc_clinit.specs.Subset.Names.{name_breaks}
+use Rattle.cjc_clinit.specs.Subset.Checks.{check_breaks}
 use Rattle.cjc_clinit.specs.Rules.{BreaksImage}
-use Rattle.cjc_vtable.specs.Tokens.Rules.{tested_breaks}
-use Rattle.cjc_vtable.specs.Subset.Places.{at_method, of_code}
-use Rattle.cjc_flow.specs.Types.Flow.{Body, body_of}
-use Rattle.cjc_flow.specs.Types.Tables.{IsMethodOf, IsBrokenBy}
+use Rattle.cjc_vtable.specs.LowerTokens.Rules.{tested_breaks}
+use Rattle.cjc_clinit.specs.Subset.Places.{at_method, of_code}
+use Rattle.cjc_narrow.specs.Types.Flow.{Body, body_of}
+use Rattle.cjc_narrow.specs.Types.Tables.{IsMethodOf, IsBrokenBy}
 use Rattle.cjc_judge.specs.OutOfRange.{IsOutOfRange}
-use Rattle.cjc_vtable.specs.Bytecode.PackageCodes.{all_codes}
+use Rattle.cjc_clinit.specs.Bytecode.PackageCodes.{all_codes}
 use Rattle.cjc_judge.specs.Codes.{all_unsupported_insns}
 use Rattle.cjc_judge.specs.declared.groups.Group.{Group}
 use Rattle.cjc_judge.specs.declared.groups.Group.TheVariants as groups

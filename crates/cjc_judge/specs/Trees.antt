@@ -2,13 +2,13 @@
 use Rattle.std.specs.Prelude.{◌≡◌, ℕ, List, [], ◌∷◌, true, false}
 use Rattle.cjc_bytes.specs.Format.{FileSpells}
 use Rattle.cjc_bytes.specs.declared.settings.FileLine.{FileLine}
-use Rattle.cjc_vtable.specs.ClassFile.ClassFile.{class_file}
-use Rattle.cjc_vtable.specs.ClassFile.Fits.{ClassFits}
-use Rattle.cjc_vtable.specs.ClassFile.declared.tree.ClassTree.{ClassTree}
-use Rattle.cjc_vtable.specs.Bytecode.declared.method_code.MethodCode.{MethodCode}
-use Rattle.cjc_vtable.specs.ExportFile.ExportFile.{export_file}
-use Rattle.cjc_vtable.specs.ExportFile.Writable.{IsWritable}
-use Rattle.cjc_vtable.specs.Bytecode.PackageCodes.{all_codes}
+use Rattle.cjc_world.specs.ClassFile.ClassFile.{class_file}
+use Rattle.cjc_world.specs.ClassFile.Fits.{ClassFits}
+use Rattle.cjc_world.specs.ClassFile.declared.tree.ClassTree.{ClassTree}
+use Rattle.cjc_clinit.specs.Bytecode.declared.method_code.MethodCode.{MethodCode}
+use Rattle.cjc_world.specs.ExportFile.ExportFile.{export_file}
+use Rattle.cjc_world.specs.ExportFile.Writable.{IsWritable}
+use Rattle.cjc_clinit.specs.Bytecode.PackageCodes.{all_codes}
 use Rattle.cjc_judge.specs.Rules.{CodeBreaks}
 use Rattle.cjc_judge.specs.Spelt.{FileTree, of_class, of_export, classes_of, exports_of}
 use Rattle.cjc_world.specs.Files.{Files}

@@ -1,13 +1,13 @@
 -- The types of the methods of a package, where they were asked for.
 use Rattle.std.specs.Prelude.{◌≡◌, Bool, true, false, List, [], ◌∷◌}
 use Rattle.std.specs.List.{list_any}
-use Rattle.cjc_vtable.specs.ClassFile.Code.{CodeTree}
-use Rattle.cjc_vtable.specs.ClassFile.declared.tree.ClassTree.{ClassTree}
-use Rattle.cjc_vtable.specs.ClassFile.declared.tree.MethodTree.{MethodTree}
-use Rattle.cjc_vtable.specs.Bytecode.declared.method_code.MethodCode.{MethodCode}
-use Rattle.cjc_flow.specs.Types.Flow.{body_of}
-use Rattle.cjc_flow.specs.Types.Tables.{IsMethodOf, IsTypeTable}
-use Rattle.cjc_flow.specs.Types.declared.table.TypeTable.{TypeTable}
+use Rattle.cjc_world.specs.ClassFile.Code.{CodeTree}
+use Rattle.cjc_world.specs.ClassFile.declared.tree.ClassTree.{ClassTree}
+use Rattle.cjc_world.specs.ClassFile.declared.tree.MethodTree.{MethodTree}
+use Rattle.cjc_clinit.specs.Bytecode.declared.method_code.MethodCode.{MethodCode}
+use Rattle.cjc_narrow.specs.Types.Flow.{body_of}
+use Rattle.cjc_narrow.specs.Types.Tables.{IsMethodOf, IsTypeTable}
+use Rattle.cjc_narrow.specs.Types.declared.table.TypeTable.{TypeTable}
 use Rattle.cjc_world.specs.Classes.{all_classes}
 use Rattle.cjc_world.specs.Files.{Files}
 use Rattle.cjc_judge.specs.declared.groups.Group.{Group}

@@ -2,7 +2,7 @@
 //! class files.
 
 ghost use Rattle.std.specs.Prelude.{◌≡◌, [], length, All, IfOk, IfErr, OnOk};
-ghost use Rattle.cjc_flow.specs.Types.Tables.{IsOfPackage};
+ghost use Rattle.cjc_narrow.specs.Types.Tables.{IsOfPackage};
 ghost use Rattle.cjc_world.specs.Rules.{breaks};
 ghost use Rattle.cjc_bytes.specs.Breaks.{Break as Broken, IsFirstRefusal};
 ghost use Rattle.cjc_judge.specs.Judged.{IsJudged, IsStopped};

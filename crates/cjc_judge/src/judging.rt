@@ -5,11 +5,11 @@ ghost use Rattle.std.specs.Prelude.{◌≡◌, ◌≤◌, All, IfOk, IfErr, IfNo
 ghost use Rattle.std.specs.Prelude.{option_map};
 ghost use Rattle.cjc_bytes.specs.Told.{break_of};
 ghost use Rattle.cjc_bytes.specs.Breaks.{Among, IsFirstOf, Break as Broken};
-ghost use Rattle.cjc_vtable.specs.ClassFile.Code.{CodeTree};
-ghost use Rattle.cjc_vtable.specs.ClassFile.declared.tree.ClassTree.{ClassTree};
-ghost use Rattle.cjc_vtable.specs.ClassFile.declared.tree.MethodTree.{MethodTree};
-ghost use Rattle.cjc_flow.specs.Types.Tables.{IsMethodOf, IsOfPackage};
-ghost use Rattle.cjc_vtable.specs.Tokens.Rules.{tested_breaks};
+ghost use Rattle.cjc_world.specs.ClassFile.Code.{CodeTree};
+ghost use Rattle.cjc_world.specs.ClassFile.declared.tree.ClassTree.{ClassTree};
+ghost use Rattle.cjc_world.specs.ClassFile.declared.tree.MethodTree.{MethodTree};
+ghost use Rattle.cjc_narrow.specs.Types.Tables.{IsMethodOf, IsOfPackage};
+ghost use Rattle.cjc_vtable.specs.LowerTokens.Rules.{tested_breaks};
 ghost use Rattle.cjc_judge.specs.Rules.{unsupported_break, unsupported_breaks, settings_of, method_break, BreaksType};
 ghost use Rattle.cjc_judge.specs.Rules.{BreaksAnyType, BreaksRange, BreaksAnyRange, IsFirstIn, IsFirstFault};
 ghost use Rattle.cjc_judge.specs.Rules.{IsOfThirdHundred};

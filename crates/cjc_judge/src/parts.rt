@@ -6,8 +6,8 @@ ghost use Rattle.cjc_bytes.specs.Breaks.{Break as Broken};
 ghost use Rattle.cjc_clinit.specs.Image.{IsImage};
 ghost use Rattle.cjc_clinit.specs.Rules.{BreaksImage};
 ghost use Rattle.cjc_judge.specs.Rules.{has_applets};
-ghost use Rattle.cjc_vtable.specs.Tokens.Rules.{FewCells, FewExported, token_breaks};
-ghost use Rattle.cjc_vtable.specs.Tokens.Tokens.{assigned};
+ghost use Rattle.cjc_vtable.specs.LowerTokens.Rules.{FewCells, FewExported, token_breaks};
+ghost use Rattle.cjc_vtable.specs.LowerTokens.Tokens.{assigned};
 
 use crate::judging::settings;
 use cjc_bytes::{Fault, NoMemory};

@@ -2,8 +2,8 @@
 //! file, or breaks a rule by itself.
 
 ghost use Rattle.std.specs.Prelude.{◌≡◌, ◌<◌, length, true};
-ghost use Rattle.cjc_vtable.specs.Bytecode.Decoded.{HasCode};
-ghost use Rattle.cjc_vtable.specs.ClassFile.Fits.{ClassFits};
+ghost use Rattle.cjc_clinit.specs.Bytecode.Decoded.{HasCode};
+ghost use Rattle.cjc_world.specs.ClassFile.Fits.{ClassFits};
 ghost use Rattle.cjc_judge.specs.Spelt.{AreFiles};
 ghost use Rattle.cjc_judge.specs.Working.Reading.{DecodesMethod, DecodesClass, ReadsFile, ReadsFiles};
 

@@ -2,5 +2,5 @@ pub mod Acts
 pub mod States
 pub mod Runs
 -- Definitions of lower crates, for those above.
-pub mod Script
-pub mod JvmSemantics
+pub mod Bytecode
+pub mod JvmStep

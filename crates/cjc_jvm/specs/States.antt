@@ -1,8 +1,8 @@
 -- The state of a run between the frame under way and the rest, and what a move leaves.
 use Rattle.std.specs.Prelude.{◌≡◌, ℕ, ◌+◌, List, [], ◌∷◌, length, sum_by, Option, Some, None}
-use Rattle.cjc_jvm_semantics.specs.Script.declared.report.Outcome.{Outcome}
-use Rattle.cjc_jvm_semantics.specs.Script.declared.report.Note.{Note}
-use Rattle.cjc_jvm_semantics.specs.CardSemantics.Bytecode.Runs.{Move, On, Over}
+use Rattle.cjc_jvm_step.specs.Script.declared.report.Outcome.{Outcome}
+use Rattle.cjc_jvm_step.specs.Script.declared.report.Note.{Note}
+use Rattle.cjc_jvm_step.specs.CardSemantics.Bytecode.Runs.{Move, On, Over}
 use Rattle.cjc_jvm_semantics.specs.Machine.{Frame, State, report, with_frames, stuck_at, heap_of}
 use Rattle.cjc_jvm.specs.declared.turns.after.After.{After}
 use Rattle.cjc_jvm.specs.declared.turns.after.After.TheVariants as afters

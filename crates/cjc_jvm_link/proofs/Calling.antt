@@ -4,7 +4,7 @@ use Rattle.std.specs.Prelude.{Option, Some, None, if◌then◌else◌}
 use Rattle.cjc_world.specs.Lookup.{selected}
 use Rattle.cjc_world.specs.Classes.{Class, class_named, declared}
 use Rattle.cjc_world.specs.Supertypes.{IsAcyclic, Unknown, supertypes, line, upwards}
-use Rattle.cjc_jvm_semantics.specs.ClassFile.declared.tree.ClassTree.{ClassTree}
+use Rattle.cjc_world.specs.ClassFile.declared.tree.ClassTree.{ClassTree}
 use Rattle.cjc_world.proofs.Settled.{supertypes-known}
 use Rattle.cjc_world.proofs.Upwards.{line_goes_up}
 use Rattle.cjc_jvm_semantics.specs.Linked

@@ -1,10 +1,10 @@
 -- Static cells and fields of objects, one field more.
 use Rattle.std.proofs.Common.{◌≡◌, refl, ap, Bool, true, false, List, [], ◌∷◌, ◌++◌, map, ℕ}
 use Rattle.std.specs.Prelude.{if◌then◌else◌}
-use Rattle.cjc_jvm_semantics.specs.Bytes.declared.fault.MemberId.{MemberId}
-use Rattle.cjc_jvm_semantics.specs.Bytes.AccessFlags.{is_static}
-use Rattle.cjc_jvm_semantics.specs.ClassFile.declared.tree.FieldTree.{FieldTree}
-use Rattle.cjc_jvm_semantics.specs.Script.declared.report.FieldValue.{FieldValue}
+use Rattle.cjc_world.specs.Bytes.declared.fault.MemberId.{MemberId}
+use Rattle.cjc_world.specs.Bytes.AccessFlags.{is_static}
+use Rattle.cjc_world.specs.ClassFile.declared.tree.FieldTree.{FieldTree}
+use Rattle.cjc_jvm_step.specs.Script.declared.report.FieldValue.{FieldValue}
 use Rattle.cjc_world.specs.declared.image.StaticImage.{StaticImage}
 use Rattle.cjc_world.specs.Classes.{field_of_class}
 use Rattle.cjc_jvm_semantics.specs.Effects.{fresh_field}

@@ -3,8 +3,8 @@ use Rattle.std.proofs.Common.{◌≡◌, ℕ, ◌+◌, ◌-◌, refl, sym, ap, �
 use Rattle.std.specs.Prelude.{Some, None, option_map, option_and_then, slice_get, if◌then◌else◌, ◌==◌, ◌&&◌, position}
 use Rattle.std.specs.Prelude.{not}
 use Rattle.std.proofs.lemmas.Bool.Decides.{Decides-eqb}
-use Rattle.cjc_jvm_semantics.specs.Bytes.declared.fault.MemberId.{MemberId}
-use Rattle.cjc_jvm_semantics.specs.Bytes.AccessFlags.{is_static}
+use Rattle.cjc_world.specs.Bytes.declared.fault.MemberId.{MemberId}
+use Rattle.cjc_world.specs.Bytes.AccessFlags.{is_static}
 use Rattle.cjc_world.specs.declared.found.Found.{Found}
 use Rattle.cjc_world.specs.Files.{Files}
 use Rattle.cjc_world.specs.Classes.{Member, Class, class_at, is_at}

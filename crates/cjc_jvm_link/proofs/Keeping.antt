@@ -7,7 +7,7 @@ use Rattle.std.specs.Str.{bytes_eq}
 use Rattle.std.proofs.lemmas.Option.{same_Some}
 use Rattle.std.proofs.Math.Seq.{drop-cons}
 use Rattle.std.proofs.lemmas.List.{append_assoc}
-use Rattle.cjc_jvm_semantics.specs.Script.declared.report.FieldValue.{FieldValue}
+use Rattle.cjc_jvm_step.specs.Script.declared.report.FieldValue.{FieldValue}
 use Rattle.cjc_world.specs.Classes.{Class, class_named}
 use Rattle.cjc_world.specs.Supertypes.{IsAcyclic, line}
 use Rattle.cjc_jvm_semantics.specs.Effects.{fresh_field}

@@ -4,8 +4,8 @@ use Rattle.std.proofs.Common.{◌∷◌, ◌++◌, length, set}
 use Rattle.std.specs.Prelude.{slice_get, if◌then◌else◌, ◌==◌}
 use Rattle.std.proofs.lemmas.Bool.{eqb-true}
 use Rattle.std.proofs.lemmas.Bool.Decides.{Decides-eqb}
-use Rattle.cjc_jvm_semantics.specs.Bytecode.declared.insn.JInsn.{JInsn}
-use Rattle.cjc_jvm_semantics.specs.Bytecode.declared.method_code.MethodCode.{MethodCode}
+use Rattle.cjc_jvm_step.specs.Bytecode.declared.insn.JInsn.{JInsn}
+use Rattle.cjc_jvm_step.specs.Bytecode.declared.method_code.MethodCode.{MethodCode}
 use Rattle.cjc_jvm_semantics.specs.Effects.{or_other, place}
 use Rattle.cjc_jvm_step.specs.Frame.Places.{IsIndex}
 use Rattle.cjc_jvm_link.specs.Methods.{AreIndices}

@@ -5,9 +5,9 @@ use Rattle.std.specs.Prelude.{Option, Some, None, if◌then◌else◌}
 use Rattle.std.specs.HashMap as hash
 use Rattle.std.specs.HashMap.{HashMap}
 use Rattle.std.specs.Map.{KeepsOthers}
-use Rattle.cjc_jvm_semantics.specs.Bytes.declared.fault.MemberId.{MemberId}
-use Rattle.cjc_jvm_semantics.specs.Script.declared.value.Value.{Value}
-use Rattle.cjc_jvm_semantics.specs.Script.declared.value.Value.TheVariants.{Num, Obj}
+use Rattle.cjc_world.specs.Bytes.declared.fault.MemberId.{MemberId}
+use Rattle.cjc_jvm_step.specs.Script.declared.value.Value.{Value}
+use Rattle.cjc_jvm_step.specs.Script.declared.value.Value.TheVariants.{Num, Obj}
 use Rattle.cjc_world.specs.declared.image.ArrayCell.{ArrayCell}
 use Rattle.cjc_world.specs.declared.image.ValueCell.{ValueCell}
 use Rattle.cjc_jvm_semantics.specs.Effects.{is_same_field}

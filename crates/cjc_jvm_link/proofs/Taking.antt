@@ -3,14 +3,14 @@ use Rattle.std.proofs.Common.{◌≡◌, ℕ, ◌+◌, ◌<◌, ◌≤◌, refl,
 use Rattle.std.proofs.Common.{◌++◌, length, drop, get_or, take, map}
 use Rattle.std.specs.Prelude.{Option, Some, None, if◌then◌else◌, ◌==◌, ◌&&◌, Result, Ok, Err}
 use Rattle.std.proofs.lemmas.List.{drop_all, map-append, take_more}
-use Rattle.cjc_jvm_semantics.specs.Bytes.declared.breaks.BrokenAt.{BrokenAt}
-use Rattle.cjc_jvm_semantics.specs.ClassFile.declared.tree.ClassTree.{ClassTree}
-use Rattle.cjc_jvm_semantics.specs.ClassFile.declared.tree.MethodTree.{MethodTree}
-use Rattle.cjc_jvm_semantics.specs.ClassFile.Code.{CodeTree}
-use Rattle.cjc_jvm_semantics.specs.Bytecode.declared.insn.JInsn.{JInsn}
-use Rattle.cjc_jvm_semantics.specs.Bytecode.declared.method_code.MethodCode.{MethodCode}
-use Rattle.cjc_jvm_semantics.specs.Bytecode.Decoded.{decoding, decoded, insns_of}
-use Rattle.cjc_jvm_semantics.specs.Bytecode.PackageCodes.{first_insns, code_with, where_code, of_methods, of_classes}
+use Rattle.cjc_world.specs.Bytes.declared.breaks.BrokenAt.{BrokenAt}
+use Rattle.cjc_world.specs.ClassFile.declared.tree.ClassTree.{ClassTree}
+use Rattle.cjc_world.specs.ClassFile.declared.tree.MethodTree.{MethodTree}
+use Rattle.cjc_world.specs.ClassFile.Code.{CodeTree}
+use Rattle.cjc_jvm_step.specs.Bytecode.declared.insn.JInsn.{JInsn}
+use Rattle.cjc_jvm_step.specs.Bytecode.declared.method_code.MethodCode.{MethodCode}
+use Rattle.cjc_jvm_step.specs.Bytecode.Decoded.{decoding, decoded, insns_of}
+use Rattle.cjc_jvm_step.specs.Bytecode.PackageCodes.{first_insns, code_with, where_code, of_methods, of_classes}
 use Rattle.cjc_jvm_link.specs.Methods.{is_first, insns_at, behind, insns_in}
 use Rattle.cjc_world.proofs.BytesGets.{drop_next}
 use Rattle.cjc_world.proofs.BytesNumbers.{like_number, other_number}

@@ -5,9 +5,9 @@ use Rattle.std.proofs.Common.{Bool, true, false, append_assoc, append-nil}
 use Rattle.std.specs.Prelude.{◌||◌, if◌then◌else◌}
 use Rattle.std.specs.List.{flat_map}
 use Rattle.std.proofs.lemmas.List.{flat_map_more, map_more, take_more}
-use Rattle.cjc_jvm_semantics.specs.Bytes.declared.settings.FileLine.{FileLine}
-use Rattle.cjc_jvm_semantics.specs.ClassFile.declared.tree.ClassTree.{ClassTree}
-use Rattle.cjc_jvm_semantics.specs.ExportFile.declared.tree.ExportTree.{ExportTree}
+use Rattle.cjc_world.specs.Bytes.declared.settings.FileLine.{FileLine}
+use Rattle.cjc_world.specs.ClassFile.declared.tree.ClassTree.{ClassTree}
+use Rattle.cjc_world.specs.ExportFile.declared.tree.ExportTree.{ExportTree}
 use Rattle.cjc_world.specs.declared.image.StaticImage.{StaticImage}
 use Rattle.cjc_world.specs.Files.{Files, files_of}
 use Rattle.cjc_jvm_semantics.specs.Group.{is_among, is_of_group, joint, joint_classes, joint_exports, joint_image}

@@ -3,8 +3,8 @@ use Rattle.std.specs.Prelude.{◌≡◌, ℕ, List, [], ◌∷◌, map, reverse,
 use Rattle.std.specs.HashMap.{get_by}
 use Rattle.std.specs.List.{flat_map}
 use Rattle.std.specs.Str.{bytes_eq}
-use Rattle.cjc_jvm_semantics.specs.Script.declared.report.FieldValue.{FieldValue}
-use Rattle.cjc_jvm_semantics.specs.ClassFile.declared.tree.ClassTree.{ClassTree}
+use Rattle.cjc_jvm_step.specs.Script.declared.report.FieldValue.{FieldValue}
+use Rattle.cjc_world.specs.ClassFile.declared.tree.ClassTree.{ClassTree}
 use Rattle.cjc_world.specs.Classes.{Class, class_named, field_of_class}
 use Rattle.cjc_world.specs.Supertypes.{supertypes, upwards}
 use Rattle.cjc_jvm_semantics.specs.Effects.{fresh_field}

@@ -1,6 +1,6 @@
 -- What several packages have together, one package or file more.
 use Rattle.std.specs.Prelude.{List, [], ◌∷◌, ◌++◌, ◌||◌, if◌then◌else◌}
-use Rattle.cjc_jvm_semantics.specs.ExportFile.declared.tree.ExportTree.{ExportTree}
+use Rattle.cjc_world.specs.ExportFile.declared.tree.ExportTree.{ExportTree}
 use Rattle.cjc_world.specs.declared.image.StaticImage.{StaticImage}
 use Rattle.cjc_world.specs.Files.{Files}
 use Rattle.cjc_jvm_semantics.specs.Group.{is_among, is_of_group}

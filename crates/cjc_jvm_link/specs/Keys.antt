@@ -7,7 +7,7 @@ use Rattle.std.specs.Hash as writes
 use Rattle.std.proofs.lemmas.Slice.Eq.{bytes_eq-Decides}
 use Rattle.std.proofs.lemmas.Bool.{false≢true}
 use Rattle.std.proofs.Common.{ap, ◌∙◌, Decides}
-use Rattle.cjc_jvm_semantics.specs.Bytes.declared.fault.MemberId.{MemberId}
+use Rattle.cjc_world.specs.Bytes.declared.fault.MemberId.{MemberId}
 use Rattle.cjc_jvm_semantics.specs.Effects.{is_same_field}
 
 all_three : (p q r : Bool) → ((p && q) && r) ≡ true → (p ≡ true) × (q ≡ true) × (r ≡ true)

@@ -9,5 +9,4 @@ pub mod Keys
 pub mod Starts
 pub mod Working
 -- Definitions of lower crates, for those above.
-pub mod Bytecode
-pub mod World
+pub mod JvmSemantics

@@ -1,13 +1,13 @@
 -- The methods of class files, by what their code was decoded to.
 use Rattle.std.specs.Prelude.{◌<◌, ◌^◌, ◌==◌, ◌&&◌, ℕ, List, [], ◌∷◌, map, length, drop, Bool, false, if◌then◌else◌}
 use Rattle.std.specs.Prelude.{Option, Some, None}
-use Rattle.cjc_jvm_semantics.specs.ClassFile.declared.tree.ClassTree.{ClassTree}
-use Rattle.cjc_jvm_semantics.specs.ClassFile.declared.tree.MethodTree.{MethodTree}
-use Rattle.cjc_jvm_semantics.specs.ClassFile.Code.{CodeTree}
-use Rattle.cjc_jvm_semantics.specs.Bytecode.declared.insn.JInsn.{JInsn}
-use Rattle.cjc_jvm_semantics.specs.Bytecode.declared.method_code.MethodCode.{MethodCode}
-use Rattle.cjc_jvm_semantics.specs.Bytecode.Decoded.{decoded}
-use Rattle.cjc_jvm_semantics.specs.Bytecode.PackageCodes.{first_insns}
+use Rattle.cjc_world.specs.ClassFile.declared.tree.ClassTree.{ClassTree}
+use Rattle.cjc_world.specs.ClassFile.declared.tree.MethodTree.{MethodTree}
+use Rattle.cjc_world.specs.ClassFile.Code.{CodeTree}
+use Rattle.cjc_jvm_step.specs.Bytecode.declared.insn.JInsn.{JInsn}
+use Rattle.cjc_jvm_step.specs.Bytecode.declared.method_code.MethodCode.{MethodCode}
+use Rattle.cjc_jvm_step.specs.Bytecode.Decoded.{decoded}
+use Rattle.cjc_jvm_step.specs.Bytecode.PackageCodes.{first_insns}
 use Rattle.cjc_jvm_semantics.specs.Linked.{Method}
 use Rattle.cjc_jvm_semantics.specs.OnePackage.{method_by}
 use Rattle.cjc_jvm_step.specs.Frame.Places.{IsIndex}

@@ -1,8 +1,8 @@
 -- What static cells hold before anything runs, as it is kept by their fields.
 use Rattle.std.specs.Prelude.{◌≡◌, List, Option, Some, None}
 use Rattle.std.specs.HashMap.{get_by}
-use Rattle.cjc_jvm_semantics.specs.Bytes.declared.fault.MemberId.{MemberId}
-use Rattle.cjc_jvm_semantics.specs.Script.declared.value.Value.{Value}
+use Rattle.cjc_world.specs.Bytes.declared.fault.MemberId.{MemberId}
+use Rattle.cjc_jvm_step.specs.Script.declared.value.Value.{Value}
 use Rattle.cjc_world.specs.declared.image.ArrayCell.{ArrayCell}
 use Rattle.cjc_world.specs.declared.image.ValueCell.{ValueCell}
 use Rattle.cjc_jvm_semantics.specs.Effects.{is_same_field}

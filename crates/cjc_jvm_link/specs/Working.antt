@@ -1,7 +1,7 @@
 -- The tables that are made once for the machine by name, methods, new objects and static cells, and that they
 -- are those of the files.
 use Rattle.std.specs.Prelude.{◌≡◌, List, map}
-use Rattle.cjc_jvm_semantics.specs.Script.declared.report.FieldValue.{FieldValue}
+use Rattle.cjc_jvm_step.specs.Script.declared.report.FieldValue.{FieldValue}
 use Rattle.cjc_world.specs.declared.image.StaticImage.{StaticImage}
 use Rattle.cjc_world.specs.Files.{Files}
 use Rattle.cjc_world.specs.Classes.{all_classes}

@@ -3,7 +3,7 @@
 
 ghost use Rattle.std.specs.Prelude.{◌≡◌, ◌&&◌, ℕ, List, Option, Some, None, not, option_map, option_and_then};
 ghost use Rattle.std.specs.Prelude.{MatchOption, if◌then◌else◌};
-ghost use Rattle.cjc_jvm_semantics.specs.Bytes.declared.fault.MemberId.{MemberId as Id};
+ghost use Rattle.cjc_world.specs.Bytes.declared.fault.MemberId.{MemberId as Id};
 ghost use Rattle.cjc_world.specs.Classes.{all_classes, class_named};
 ghost use Rattle.cjc_world.specs.Supertypes.{line};
 ghost use Rattle.cjc_world.specs.Lookup.{is_selectable, receiver, find_method};

@@ -2,8 +2,8 @@
 
 ghost use Rattle.std.specs.Prelude.{◌≡◌, ◌<◌, ◌^◌, ◌++◌, ◌+◌, ◌∷◌, [], ℕ, List, map, length, IfOk, OnOk, Some, None};
 ghost use Rattle.std.specs.Prelude.{option_map, if◌then◌else◌};
-ghost use Rattle.cjc_jvm_semantics.specs.Bytes.declared.fault.MemberId.{MemberId as Id};
-ghost use Rattle.cjc_jvm_semantics.specs.Script.Sorts.{array_of, OfNumbers};
+ghost use Rattle.cjc_world.specs.Bytes.declared.fault.MemberId.{MemberId as Id};
+ghost use Rattle.cjc_jvm_step.specs.Script.Sorts.{array_of, OfNumbers};
 ghost use Rattle.cjc_jvm_step.specs.Heap.Kinds.{elements_of};
 ghost use Rattle.cjc_world.specs.declared.image.StaticImage.{StaticImage as Image};
 ghost use Rattle.cjc_jvm_semantics.specs.Effects.{is_same_field};
@@ -33,7 +33,7 @@ struct Key<'k> {
 }
 
 impl<'k> Model for Key<'k> {
-    ghost use Rattle.cjc_jvm_semantics.specs.Bytes.declared.fault.MemberId.{MemberId};
+    ghost use Rattle.cjc_world.specs.Bytes.declared.fault.MemberId.{MemberId};
 
     ghost Value = { MemberId };
 

@@ -4,10 +4,10 @@
 ghost use Rattle.std.specs.Prelude.{◌≡◌, ◌++◌, ◌∷◌, [], ℕ, List, map, slice_get, option_map, OnOk, IfOk, cond, Some};
 ghost use Rattle.std.specs.Prelude.{None, if◌then◌else◌};
 ghost use Rattle.std.specs.Str.{bytes_eq};
-ghost use Rattle.cjc_jvm_semantics.specs.Script.declared.report.FieldValue.{FieldValue as FieldCell};
+ghost use Rattle.cjc_jvm_step.specs.Script.declared.report.FieldValue.{FieldValue as FieldCell};
 ghost use Rattle.cjc_world.specs.Classes.{Class, all_classes, class_named};
 ghost use Rattle.cjc_world.specs.Working.Known.{class_of};
-ghost use Rattle.cjc_jvm_semantics.specs.Bytes.AccessFlags.{is_static};
+ghost use Rattle.cjc_world.specs.Bytes.AccessFlags.{is_static};
 ghost use Rattle.cjc_jvm_semantics.specs.Effects.{fresh_field};
 ghost use Rattle.cjc_jvm_semantics.specs.OnePackage.{declared_fields};
 ghost use Rattle.cjc_jvm_link.specs.Fresh.{fresh_in, fresh_fields, own_fields, AreFresh, HasAll, HasClass, HasEach};

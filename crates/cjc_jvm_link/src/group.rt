@@ -5,7 +5,7 @@ ghost use Rattle.std.specs.Prelude.{◌≡◌, ℕ, List, Some, None, option_map
 ghost use Rattle.std.specs.List.{find};
 ghost use Rattle.std.specs.Str.{bytes_eq};
 ghost use Rattle.cjc_world.specs.Classes.{all_classes};
-ghost use Rattle.cjc_jvm_semantics.specs.Bytecode.PackageCodes.{all_codes};
+ghost use Rattle.cjc_jvm_step.specs.Bytecode.PackageCodes.{all_codes};
 ghost use Rattle.cjc_jvm_semantics.specs.OnePackage.{call_by};
 ghost use Rattle.cjc_jvm_semantics.specs.Effects.{fresh_field};
 ghost use Rattle.cjc_jvm_semantics.specs.Group.{call_from, field_from, files_of_class, group_call, group_sent};

@@ -5,7 +5,7 @@ ghost use Rattle.std.specs.Prelude.{◌≡◌, ◌-◌, length, option_map, slic
 ghost use Rattle.std.specs.List.{flat_map};
 ghost use Rattle.cjc_world.specs.Classes.{all_classes};
 ghost use Rattle.cjc_world.specs.Working.Known.{class_of};
-ghost use Rattle.cjc_jvm_semantics.specs.Bytes.declared.fault.MemberId.{MemberId as Id};
+ghost use Rattle.cjc_world.specs.Bytes.declared.fault.MemberId.{MemberId as Id};
 ghost use Rattle.cjc_jvm_semantics.specs.OnePackage.{constant_in, exported_constant, constant_at, field_by};
 ghost use Rattle.cjc_jvm_semantics.specs.OnePackage.{field_hit, field_named};
 ghost use Rattle.cjc_jvm_step.specs.Step.Names.{field_of};

@@ -2,7 +2,7 @@
 //! is called for.
 
 ghost use Rattle.std.specs.Prelude.{◌≡◌, ◌&&◌, option_map, option_and_then, map, IfOk};
-ghost use Rattle.cjc_jvm_semantics.specs.Bytecode.PackageCodes.{all_codes};
+ghost use Rattle.cjc_jvm_step.specs.Bytecode.PackageCodes.{all_codes};
 ghost use Rattle.cjc_world.specs.Classes.{all_classes};
 ghost use Rattle.cjc_jvm_semantics.specs.Effects.{fresh_field};
 ghost use Rattle.cjc_world.specs.Classes.{class_named};

@@ -2,7 +2,7 @@
 //! first instruction.
 
 ghost use Rattle.std.specs.Prelude.{◌≡◌, ◌<◌, ◌+◌, ◌++◌, ◌^◌, length, map, IfOk};
-ghost use Rattle.cjc_jvm_semantics.specs.Bytecode.PackageCodes.{all_codes, of_methods, of_classes, code_with};
+ghost use Rattle.cjc_jvm_step.specs.Bytecode.PackageCodes.{all_codes, of_methods, of_classes, code_with};
 ghost use Rattle.cjc_jvm_semantics.specs.OnePackage.{method_by};
 ghost use Rattle.cjc_jvm_step.specs.Frame.Places.{IsIndex};
 ghost use Rattle.cjc_jvm_link.specs.Methods.{AreIndices, methods_of, insns_in, insns_at, behind};

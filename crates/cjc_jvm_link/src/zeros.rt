@@ -1,8 +1,8 @@
 //! The zero, false or null that a field of a descriptor holds before anything is put there.
 
 ghost use Rattle.std.specs.Prelude.{◌≡◌, IfOk};
-ghost use Rattle.cjc_jvm_semantics.specs.Bytes.Descriptor.{part_at};
-ghost use Rattle.cjc_jvm_semantics.specs.Script.Sorts.{field_sort, sort_by, sort_of, zero_of};
+ghost use Rattle.cjc_world.specs.Bytes.Descriptor.{part_at};
+ghost use Rattle.cjc_jvm_step.specs.Script.Sorts.{field_sort, sort_by, sort_of, zero_of};
 ghost use Rattle.cjc_jvm_semantics.specs.Effects.{fresh_field};
 ghost use Rattle.cjc_jvm_semantics.specs.OnePackage.{of_class};
 

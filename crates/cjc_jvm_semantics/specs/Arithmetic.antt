@@ -4,7 +4,7 @@ use Rattle.std.specs.Prelude.{ℕ, zero, suc, ◌^◌, ◌-◌, ◌==◌, ◌&&�
 use Rattle.std.specs.Prelude.{negsuc, neg_ℤ, ◌+ℤ◌, ◌-ℤ◌, ◌*ℤ◌}
 use Rattle.std.specs.Int.{w32, int_shr, int_bit_and, int_bit_or, int_bit_xor}
 use Rattle.std.specs.Int.RustNames.{int_div, int_rem, int_lt, int_le}
-use Rattle.cjc_code.specs.LowerRange.Words.{wide, shift_distance, unsigned_shift}
+use Rattle.cjc_code.specs.Range.Words.{wide, shift_distance, unsigned_shift}
 use Rattle.cjc_code.specs.Jvm as jvm
 
 -- 0

@@ -5,11 +5,11 @@ use Rattle.std.specs.Prelude.{ℕ, ◌+◌, List, [], ◌∷◌, ◌++◌, lengt
 use Rattle.std.specs.Prelude.{option_and_then, is_some, Bool, true, false, not, ◌==◌, ◌&&◌, ◌||◌, if◌then◌else◌, ℤ}
 use Rattle.std.specs.List.{find, flat_map, list_any}
 use Rattle.std.specs.Str.{bytes_eq}
-use Rattle.cjc_code.specs.LowerBytes.declared.fault.MemberId.{MemberId}
-use Rattle.cjc_code.specs.LowerBytes.declared.settings.FileLine.{FileLine}
-use Rattle.cjc_code.specs.LowerBytes.AccessFlags.{is_public, is_protected, is_private}
-use Rattle.cjc_code.specs.LowerClassFile.declared.tree.ClassTree.{ClassTree}
-use Rattle.cjc_world.specs.LowerExportFile.declared.tree.ExportTree.{ExportTree}
+use Rattle.cjc_code.specs.Bytes.declared.fault.MemberId.{MemberId}
+use Rattle.cjc_code.specs.Bytes.declared.settings.FileLine.{FileLine}
+use Rattle.cjc_code.specs.Bytes.AccessFlags.{is_public, is_protected, is_private}
+use Rattle.cjc_code.specs.ClassFile.declared.tree.ClassTree.{ClassTree}
+use Rattle.cjc_world.specs.ExportFile.declared.tree.ExportTree.{ExportTree}
 use Rattle.cjc_script.specs.declared.script.Script.{Script}
 use Rattle.cjc_script.specs.declared.report.Report.{Report}
 use Rattle.cjc_world.specs.declared.found.Found.{Found}

@@ -8,12 +8,11 @@ pub mod Worked
 pub mod Wallet
 pub mod Group
 -- Definitions of lower crates, for those above.
-pub mod Bytes
-pub mod Range
-pub mod ClassFile
-pub mod Bytecode
-pub mod ExportFile
-pub mod Script
-pub mod LowerCapRead
-pub mod World
-pub mod CardSemantics
+pub mod LowerBytes
+pub mod LowerRange
+pub mod LowerClassFile
+pub mod LowerBytecode
+pub mod LowerScript
+pub mod CapRead
+pub mod LowerWorld
+pub mod LowerCardSemantics

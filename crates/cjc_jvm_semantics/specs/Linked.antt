@@ -1,7 +1,7 @@
 -- What the machine by name asks of class files and export files: one record of look-ups.
 use Rattle.std.specs.Prelude.{ℕ, List, Option, Bool, ℤ}
-use Rattle.cjc_code.specs.LowerBytes.declared.fault.MemberId.{MemberId}
-use Rattle.cjc_code.specs.LowerClassFile.declared.tree.Catch.{Catch}
+use Rattle.cjc_code.specs.Bytes.declared.fault.MemberId.{MemberId}
+use Rattle.cjc_code.specs.ClassFile.declared.tree.Catch.{Catch}
 use Rattle.cjc_code.specs.declared.insn.JInsn.{JInsn}
 use Rattle.cjc_script.specs.declared.report.FieldValue.{FieldValue}
 use Rattle.cjc_script.specs.declared.report.Thing.{Thing}

@@ -4,15 +4,15 @@ use Rattle.std.specs.Prelude.{option_and_then, is_some, Bool, true, false, not, 
 use Rattle.std.specs.Prelude.{slice_get, ℤ, codes}
 use Rattle.std.specs.List.{flat_map}
 use Rattle.std.specs.Str.{bytes_eq}
-use Rattle.cjc_code.specs.LowerBytes.declared.fault.MemberId.{MemberId}
-use Rattle.cjc_code.specs.LowerBytes.AccessFlags.{is_private, is_static, is_interface, is_abstract}
-use Rattle.cjc_code.specs.LowerClassFile.declared.tree.ClassTree.{ClassTree}
-use Rattle.cjc_code.specs.LowerClassFile.declared.tree.FieldTree.{FieldTree}
-use Rattle.cjc_code.specs.LowerClassFile.declared.tree.MethodTree.{MethodTree}
-use Rattle.cjc_code.specs.LowerClassFile.Code.{CodeTree}
+use Rattle.cjc_code.specs.Bytes.declared.fault.MemberId.{MemberId}
+use Rattle.cjc_code.specs.Bytes.AccessFlags.{is_private, is_static, is_interface, is_abstract}
+use Rattle.cjc_code.specs.ClassFile.declared.tree.ClassTree.{ClassTree}
+use Rattle.cjc_code.specs.ClassFile.declared.tree.FieldTree.{FieldTree}
+use Rattle.cjc_code.specs.ClassFile.declared.tree.MethodTree.{MethodTree}
+use Rattle.cjc_code.specs.ClassFile.Code.{CodeTree}
 use Rattle.cjc_code.specs.Decoded.{decoded}
-use Rattle.cjc_world.specs.LowerExportFile.declared.tree.ExportClass.{ExportClass}
-use Rattle.cjc_world.specs.LowerExportFile.Members.{may_be_constant}
+use Rattle.cjc_world.specs.ExportFile.declared.tree.ExportClass.{ExportClass}
+use Rattle.cjc_world.specs.ExportFile.Members.{may_be_constant}
 use Rattle.cjc_script.specs.declared.value.Value.{Value}
 use Rattle.cjc_script.specs.declared.value.Value.TheVariants.{Num, Obj}
 use Rattle.cjc_script.specs.declared.report.FieldValue.{FieldValue}

@@ -33,7 +33,7 @@ pub mod world {
 
 ghost use Rattle.std.specs.Prelude.{◌≡◌, ◌≢◌, ◌≤◌, ℕ, ℤ, codes, pos, negsuc, replicate, slice_get, length, take};
 ghost use Rattle.std.specs.Prelude.{reverse, nat_le, nat_lt, ◌++◌, false, true, List, Option, Some, None, [], ◌∷◌};
-ghost use Rattle.cjc_code.specs.LowerBytes.declared.fault.MemberId.{MemberId};
+ghost use Rattle.cjc_code.specs.Bytes.declared.fault.MemberId.{MemberId};
 ghost use Rattle.cjc_code.specs.Jvm as jvm;
 ghost use Rattle.cjc_code.specs.declared.insn.JOp.TheVariants as jop;
 ghost use Rattle.cjc_script.specs.declared.value.Value.{Value};

@@ -2,10 +2,9 @@ pub mod Frame
 pub mod Heap
 pub mod Step
 -- Definitions of lower crates, for those above.
-pub mod Bytes
-pub mod Range
-pub mod ClassFile
-pub mod LowerBytecode
-pub mod ExportFile
-pub mod CapRead
-pub mod World
+pub mod LowerClassFile
+pub mod Bytecode
+pub mod Script
+pub mod LowerWorld
+pub mod CardSemantics
+pub mod JvmSemantics

@@ -5,14 +5,14 @@ use Rattle.std.proofs.lemmas.Int.{ints}
 use Rattle.std.proofs.lemmas.Bool.{cases_lt}
 use Rattle.std.specs.Prelude.{Option, Some, None, slice_get, if◌then◌else◌, ◌&&◌, ◌==◌, not, ◌+ℤ◌, ◌-ℤ◌}
 use Rattle.std.proofs.lemmas.Option.{slice_get_past}
-use Rattle.cjc_ncode.specs.Bytes.declared.fault.MemberId.{MemberId}
-use Rattle.cjc_ncode.specs.CapRead.declared.tree.Handler.{Handler as Written}
-use Rattle.cjc_ncode.specs.CapRead.Opcodes.{Operand, Signed2, Form, Fields, Table, Lookup, form, forms, width}
-use Rattle.cjc_ncode.specs.CapRead.Opcodes.{widths}
-use Rattle.cjc_ncode.specs.CapRead.Decode.{Instruction, up_to, pairs, size}
-use Rattle.cjc_ncode.specs.CapRead.Decode as Decode
-use Rattle.cjc_ncode.specs.CardSemantics.Bytecode.Meanings.{Meaning, Branches, Ranged, Paired, meanings, meaning}
-use Rattle.cjc_ncode.specs.CardSemantics.Bytecode.Meanings.{known_meaning}
+use Rattle.cjc_ncode.specs.LowerBytes.declared.fault.MemberId.{MemberId}
+use Rattle.cjc_ncode.specs.LowerCapRead.declared.tree.Handler.{Handler as Written}
+use Rattle.cjc_ncode.specs.LowerCapRead.Opcodes.{Operand, Signed2, Form, Fields, Table, Lookup, form, forms, width}
+use Rattle.cjc_ncode.specs.LowerCapRead.Opcodes.{widths}
+use Rattle.cjc_ncode.specs.LowerCapRead.Decode.{Instruction, up_to, pairs, size}
+use Rattle.cjc_ncode.specs.LowerCapRead.Decode as Decode
+use Rattle.cjc_ncode.specs.LowerCardSemantics.Bytecode.Meanings.{Meaning, Branches, Ranged, Paired, meanings, meaning}
+use Rattle.cjc_ncode.specs.LowerCardSemantics.Bytecode.Meanings.{known_meaning}
 use Rattle.cjc_ncode.specs.declared.narrow.NCase.{NCase}
 use Rattle.cjc_ncode.specs.declared.narrow.NCatch.{NCatch}
 use Rattle.cjc_ncode.specs.declared.narrow.NInsn.{NInsn}

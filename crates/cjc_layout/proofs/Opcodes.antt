@@ -3,9 +3,9 @@ use Rattle.std.proofs.Common.{◌≡◌, ℕ, zero, suc, ◌+◌, ◌*◌, refl,
 use Rattle.std.proofs.Common.{[], ◌∷◌, Option, Some, None, inl, inr}
 use Rattle.std.specs.Prelude.{◌⊎◌, ◌&&◌, ◌==◌, slice_get, option_map, option_and_then, if◌then◌else◌}
 use Rattle.std.proofs.lemmas.Bool.Decides.{nat_tests}
-use Rattle.cjc_ncode.specs.CapRead.Opcodes.{Operand, Byte, Signed1, Signed2, Signed4, Index1, Index2, Form, Fields}
-use Rattle.cjc_ncode.specs.CapRead.Opcodes.{Table}
-use Rattle.cjc_ncode.specs.CapRead.Opcodes.{Lookup, form, forms, info, op_info, widths}
+use Rattle.cjc_ncode.specs.LowerCapRead.Opcodes.{Operand, Byte, Signed1, Signed2, Signed4, Index1, Index2, Form, Fields}
+use Rattle.cjc_ncode.specs.LowerCapRead.Opcodes.{Table}
+use Rattle.cjc_ncode.specs.LowerCapRead.Opcodes.{Lookup, form, forms, info, op_info, widths}
 use Rattle.cjc_layout.specs.Sizes.{size_by}
 use Rattle.cjc_layout.specs.Working.{switch_size, length_by}
 use Rattle.cjc_ncode.proofs.BytesBools.{and_true}

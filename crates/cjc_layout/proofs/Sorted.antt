@@ -3,7 +3,7 @@ use Rattle.std.proofs.Common.{◌≡◌, ℕ, refl, sym, ap, ◌∙◌, arith, B
 use Rattle.std.specs.Prelude.{Option, Some, nat_le, nat_lt, if◌then◌else◌, ◌&&◌, filter}
 use Rattle.std.proofs.lemmas.Bool.Decides.{nat_tests}
 use Rattle.std.proofs.lemmas.Bool.{or_parts}
-use Rattle.cjc_ncode.specs.Script.Sorts.{Shape}
+use Rattle.cjc_ncode.specs.LowerScript.Sorts.{Shape}
 use Rattle.cjc_ncode.specs.declared.narrow.NCatch.{NCatch}
 use Rattle.cjc_ncode.specs.ByLabel.{Named, takes, handler}
 use Rattle.cjc_layout.specs.Handlers.{has_range, inserted, by_target, table_order}

@@ -1,12 +1,12 @@
 -- Narrow instructions whose opcodes are of the form that they stand in, whatever their names mean (Java Card Virtual
 -- Machine Specification 2.2.2, chapter 7).
 use Rattle.std.specs.Prelude.{◌≡◌, ℕ, List, Option, Some, None, Bool, ℤ}
-use Rattle.cjc_ncode.specs.Bytes.declared.fault.MemberId.{MemberId}
-use Rattle.cjc_ncode.specs.Script.Sorts.{Element}
-use Rattle.cjc_ncode.specs.CardSemantics.Bytecode.Calculations.{Calculation, Test}
-use Rattle.cjc_ncode.specs.CardSemantics.Bytecode.Meanings.{Plain, Branches, Ranged, Paired, Uses, Casts, Asks}
-use Rattle.cjc_ncode.specs.CardSemantics.Bytecode.Meanings.{Use}
-use Rattle.cjc_ncode.specs.CardSemantics.Bytecode.Meanings.{meaning}
+use Rattle.cjc_ncode.specs.LowerBytes.declared.fault.MemberId.{MemberId}
+use Rattle.cjc_ncode.specs.LowerScript.Sorts.{Element}
+use Rattle.cjc_ncode.specs.LowerCardSemantics.Bytecode.Calculations.{Calculation, Test}
+use Rattle.cjc_ncode.specs.LowerCardSemantics.Bytecode.Meanings.{Plain, Branches, Ranged, Paired, Uses, Casts, Asks}
+use Rattle.cjc_ncode.specs.LowerCardSemantics.Bytecode.Meanings.{Use}
+use Rattle.cjc_ncode.specs.LowerCardSemantics.Bytecode.Meanings.{meaning}
 use Rattle.cjc_ncode.specs.declared.narrow.NCase.{NCase}
 use Rattle.cjc_ncode.specs.declared.narrow.NInsn.{NInsn}
 use Rattle.cjc_ncode.specs.declared.narrow.NInsn.TheVariants as insns

@@ -7,3 +7,8 @@ pub mod Layouts
 pub mod OnCard
 pub mod Worked
 pub mod Working
+-- Definitions of lower crates, for those above.
+pub mod Bytes
+pub mod Script
+pub mod CapRead
+pub mod CardSemantics

@@ -1,6 +1,6 @@
 -- A layout as components have it, where a method's code begins at an offset of Method's info.
 use Rattle.std.specs.Prelude.{ℕ, ◌+◌}
-use Rattle.cjc_ncode.specs.CapRead.declared.tree.Handler.{Handler as Written}
+use Rattle.cjc_ncode.specs.LowerCapRead.declared.tree.Handler.{Handler as Written}
 use Rattle.cjc_ncode.specs.Lowering.Naming.{Naming}
 use Rattle.cjc_ncode.specs.Lowering.Laid.{class_index}
 use Rattle.cjc_layout.specs.declared.layout.Handler.{Handler}

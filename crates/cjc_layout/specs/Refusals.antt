@@ -1,11 +1,11 @@
 -- The rules that a method's layout may break, and which of them is answered.
 use Rattle.std.specs.Prelude.{◌≡◌, ◌⊎◌, ℕ, List, [], ◌∷◌, ◌++◌, Option, Some, None, Bool, false, nat_le, nat_lt, ◌&&◌}
 use Rattle.std.specs.Prelude.{◌||◌, if◌then◌else◌}
-use Rattle.cjc_ncode.specs.Bytes.declared.fault.Fault.{Fault}
-use Rattle.cjc_ncode.specs.Bytes.declared.fault.Fault.TheVariants as faults
-use Rattle.cjc_ncode.specs.Bytes.declared.fault.MemberId.{MemberId}
-use Rattle.cjc_ncode.specs.Bytes.declared.fault.Refusal.{Refusal}
-use Rattle.cjc_ncode.specs.Bytes.Refused.{refused_at, in_class, method_text}
+use Rattle.cjc_ncode.specs.LowerBytes.declared.fault.Fault.{Fault}
+use Rattle.cjc_ncode.specs.LowerBytes.declared.fault.Fault.TheVariants as faults
+use Rattle.cjc_ncode.specs.LowerBytes.declared.fault.MemberId.{MemberId}
+use Rattle.cjc_ncode.specs.LowerBytes.declared.fault.Refusal.{Refusal}
+use Rattle.cjc_ncode.specs.LowerBytes.Refused.{refused_at, in_class, method_text}
 use Rattle.cjc_ncode.specs.declared.narrow.NCatch.{NCatch}
 use Rattle.cjc_ncode.specs.declared.narrow.NMethod.{NMethod}
 use Rattle.cjc_ncode.specs.Lowering.Handlers.{meets}

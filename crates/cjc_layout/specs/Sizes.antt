@@ -2,11 +2,11 @@
 -- chapter 7).
 use Rattle.std.specs.Prelude.{ℕ, zero, suc, ◌+◌, ◌*◌, ◌<◌, List, [], ◌∷◌, length, replicate, Option, Some, None, Bool}
 use Rattle.std.specs.Prelude.{true, if◌then◌else◌}
-use Rattle.cjc_ncode.specs.CapRead.Opcodes.{Form, Fields, Table, Lookup, form, width, widths}
+use Rattle.cjc_ncode.specs.LowerCapRead.Opcodes.{Form, Fields, Table, Lookup, form, width, widths}
 use Rattle.cjc_ncode.specs.declared.narrow.NCase.{NCase}
 use Rattle.cjc_ncode.specs.declared.narrow.NInsn.{NInsn}
 use Rattle.cjc_ncode.specs.declared.narrow.NInsn.TheVariants as narrow
-use Rattle.cjc_ncode.specs.CapRead.Card.{invokeinterface, newarray}
+use Rattle.cjc_ncode.specs.LowerCapRead.Card.{invokeinterface, newarray}
 
 -- The bytes of an instruction of this form: its opcode and its operands; of a switch the default's offset, its bounds
 -- or the number of its cases, and an offset for each case, in a lookup switch behind its match.

@@ -1,8 +1,8 @@
 -- Sizes, offsets and the choice of wide jumps as the private functions of the layout give them.
 use Rattle.std.specs.Prelude.{◌≡◌, ℕ, zero, suc, ◌+◌, ◌*◌, ◌<◌, ◌≤◌, List, [], ◌∷◌, length, Option, Some, None, Bool}
 use Rattle.std.specs.Prelude.{true, false, not, nat_le, nat_lt, ◌==◌, if◌then◌else◌, slice_get, slice_index}
-use Rattle.cjc_ncode.specs.CapRead.declared.opcode.OpInfo.{OpInfo}
-use Rattle.cjc_ncode.specs.CapRead.Card as card
+use Rattle.cjc_ncode.specs.LowerCapRead.declared.opcode.OpInfo.{OpInfo}
+use Rattle.cjc_ncode.specs.LowerCapRead.Card as card
 use Rattle.cjc_ncode.specs.declared.narrow.NInsn.{NInsn}
 use Rattle.cjc_ncode.specs.declared.narrow.NInsn.TheVariants as narrow
 use Rattle.cjc_ncode.specs.declared.narrow.NCatch.{NCatch}

@@ -5,7 +5,7 @@
 
 ghost use Rattle.std.specs.Prelude.{◌≡◌, ℕ, ◌+◌, Bool, List, ◌∷◌, [], map, slice_get, Some, None, true, false, codes};
 ghost use Rattle.std.specs.Prelude.{pos, negsuc};
-ghost use Rattle.cjc_ncode.specs.Script.Sorts.{Shape};
+ghost use Rattle.cjc_ncode.specs.LowerScript.Sorts.{Shape};
 ghost use Rattle.cjc_ncode.specs.declared.narrow.NInsn.{NInsn};
 ghost use Rattle.cjc_ncode.specs.declared.narrow.NCatch.{NCatch};
 ghost use Rattle.cjc_ncode.specs.ByLabel.{Named, handler};

@@ -1,7 +1,7 @@
 //! The layout of a method, or the rule that it breaks. Called by whoever emits methods' bytes.
 
 ghost use Rattle.std.specs.Prelude.{◌≡◌, ◌≤◌, ◌⊎◌, length, None, IfOk, OnOk, IfErr};
-ghost use Rattle.cjc_ncode.specs.Bytes.declared.fault.Fault.TheVariants as faults;
+ghost use Rattle.cjc_ncode.specs.LowerBytes.declared.fault.Fault.TheVariants as faults;
 ghost use Rattle.cjc_ncode.specs.declared.narrow.NMethod.{NMethod};
 ghost use Rattle.cjc_layout.specs.Sizes.{code_size, widest_size, AllLead, bytes_before};
 ghost use Rattle.cjc_layout.specs.Legal.{IsLeast};

@@ -1,7 +1,7 @@
 //! The bytes of narrow instructions. Called by the choice of wide jumps. It knows no offset.
 
 ghost use Rattle.std.specs.Prelude.{◌≡◌, false, ◌≤◌, length, map, IfOk};
-ghost use Rattle.cjc_ncode.specs.CapRead.Opcodes.{form, op_info};
+ghost use Rattle.cjc_ncode.specs.LowerCapRead.Opcodes.{form, op_info};
 ghost use Rattle.cjc_layout.specs.Sizes.{size_by, insn_size, widest_size};
 ghost use Rattle.cjc_layout.specs.Working.{switch_size, length_by};
 

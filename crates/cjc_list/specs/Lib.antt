@@ -2,4 +2,4 @@ pub mod Grammar
 pub mod Listed
 pub mod Spelling
 -- Definitions of lower crates, for those above.
-pub mod LowerBytes
+pub mod Bytes

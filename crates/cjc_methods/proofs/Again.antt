@@ -2,20 +2,20 @@
 use Rattle.std.proofs.Common.{◌≡◌, refl, sym, ap, ◌∙◌, List, [], ◌∷◌}
 use Rattle.std.specs.Prelude.{map, Option, Some, None}
 use Rattle.cjc_bytes.specs.declared.fault.MemberId.{MemberId}
-use Rattle.cjc_components.specs.LowerLowerTypes.declared.state.State.{State}
+use Rattle.cjc_narrow.specs.Types.declared.state.State.{State}
 use Rattle.cjc_world.specs.declared.found.Found.{Found}
 use Rattle.cjc_world.specs.Classes.{all_classes}
 use Rattle.cjc_world.specs.Files.{Files}
-use Rattle.cjc_components.specs.JvmSemantics.Linked.{Method}
-use Rattle.cjc_components.specs.JvmSemantics.OnePackage.{method_at}
-use Rattle.cjc_components.specs.NCode.declared.narrow.NMethod.{NMethod}
-use Rattle.cjc_components.specs.NCode.PoolOrder.{has_catch_type, method_keys, pool_order}
-use Rattle.cjc_components.proofs.NarrowIndices.{same_pool}
-use Rattle.cjc_components.specs.Narrow.Rows.Forms.{FormsOnly}
-use Rattle.cjc_components.specs.Narrow.Rows.Package.{code_of, flags_of, read_of}
-use Rattle.cjc_components.specs.Narrow.Rows.Resolved.{is_near, method_found, resolution}
-use Rattle.cjc_components.specs.Narrow.Rows.Selected.{near_fields}
-use Rattle.cjc_components.proofs.NarrowHandlers.{forms_only, same_keys, same_types}
+use Rattle.cjc_pool.specs.JvmSemantics.Linked.{Method}
+use Rattle.cjc_pool.specs.JvmSemantics.OnePackage.{method_at}
+use Rattle.cjc_pool.specs.NCode.declared.narrow.NMethod.{NMethod}
+use Rattle.cjc_pool.specs.NCode.PoolOrder.{has_catch_type, method_keys, pool_order}
+use Rattle.cjc_narrow.proofs.KeysLaws.Indices.{same_pool}
+use Rattle.cjc_narrow.specs.Rows.Forms.{FormsOnly}
+use Rattle.cjc_narrow.specs.Rows.Package.{code_of, flags_of, read_of}
+use Rattle.cjc_narrow.specs.Rows.Resolved.{is_near, method_found, resolution}
+use Rattle.cjc_narrow.specs.Rows.Selected.{near_fields}
+use Rattle.cjc_narrow.proofs.RowsLaws.Handlers.{forms_only, same_keys, same_types}
 use Rattle.cjc_components.specs.Written.{code_at, code_by}
 
 module _ (files : Files) (rows : Method → List (Option State)) (before after : List MemberId) where

@@ -4,27 +4,27 @@ use Rattle.std.specs.Prelude.{map, slice_get, All, Option, Some, None}
 use Rattle.std.proofs.lemmas.List.Elements.{All-head, All-tail}
 use Rattle.std.proofs.lemmas.Option.{slice_get_cases, slice_get_within}
 use Rattle.cjc_bytes.specs.declared.fault.MemberId.{MemberId}
-use Rattle.cjc_components.specs.ClassFile.Code.{CodeTree}
-use Rattle.cjc_components.specs.ClassFile.declared.tree.ClassTree.{ClassTree}
-use Rattle.cjc_components.specs.ClassFile.declared.tree.MethodTree.{MethodTree}
-use Rattle.cjc_pool.specs.Bytecode.declared.method_code.MethodCode.{MethodCode}
-use Rattle.cjc_components.specs.Narrow.Rows.Selected.{selected_code}
-use Rattle.cjc_components.specs.NCode.declared.narrow.NInsn.{NInsn}
-use Rattle.cjc_components.specs.NCode.declared.narrow.NMethod.{NMethod}
-use Rattle.cjc_components.specs.LowerLowerTypes.declared.state.State.{State}
-use Rattle.cjc_components.specs.LowerLowerTypes.declared.table.TypeTable.{TypeTable}
-use Rattle.cjc_components.specs.LowerLowerTypes.Tables.{IsMethodOf}
+use Rattle.cjc_world.specs.ClassFile.Code.{CodeTree}
+use Rattle.cjc_world.specs.ClassFile.declared.tree.ClassTree.{ClassTree}
+use Rattle.cjc_world.specs.ClassFile.declared.tree.MethodTree.{MethodTree}
+use Rattle.cjc_components.specs.Bytecode.declared.method_code.MethodCode.{MethodCode}
+use Rattle.cjc_narrow.specs.Rows.Selected.{selected_code}
+use Rattle.cjc_pool.specs.NCode.declared.narrow.NInsn.{NInsn}
+use Rattle.cjc_pool.specs.NCode.declared.narrow.NMethod.{NMethod}
+use Rattle.cjc_narrow.specs.Types.declared.state.State.{State}
+use Rattle.cjc_narrow.specs.Types.declared.table.TypeTable.{TypeTable}
+use Rattle.cjc_narrow.specs.Types.Tables.{IsMethodOf}
 use Rattle.cjc_world.specs.declared.found.Found.{Found}
 use Rattle.cjc_world.specs.Classes.{declared}
 use Rattle.cjc_world.specs.Files.{Files}
-use Rattle.cjc_components.specs.JvmSemantics.Linked.{Method}
+use Rattle.cjc_pool.specs.JvmSemantics.Linked.{Method}
 use Rattle.cjc_components.specs.Written.{code_at}
 use Rattle.cjc_methods.specs.Ready.{AreReady, AreRows, IsOwn, states}
 use Rattle.cjc_methods.specs.Working.Places.{HasPlace, IsPlaced, class_places, place_in}
 use Rattle.cjc_methods.proofs.Coded.{with_code, without_code}
 use Rattle.cjc_methods.proofs.Own.{tree_at}
 use Rattle.cjc_methods.proofs.Placing.{placed}
-use Rattle.cjc_components.specs.Narrow.Written.Rows.{has_rows, rows_by}
+use Rattle.cjc_narrow.specs.Written.Rows.{has_rows, rows_by}
 
 module _ (files : Files) (codes : List MethodCode) (types : List TypeTable) (ready : AreReady files codes types)
     (rows others : Method → List (Option State)) (are : AreRows files codes types rows) (these : AreRows files codes

@@ -2,26 +2,26 @@
 use Rattle.std.proofs.Common.{◌≡◌, ℕ, ◌-◌, refl, sym, ap, ◌∙◌, arith, false, List, [], length}
 use Rattle.std.specs.Prelude.{slice_get, Option, Some, None, option_map, option_and_then, if◌then◌else◌, Ok}
 use Rattle.cjc_bytes.specs.declared.fault.MemberId.{MemberId}
-use Rattle.cjc_components.specs.ClassFile.Code.{CodeTree}
-use Rattle.cjc_components.specs.ClassFile.declared.tree.ClassTree.{ClassTree}
-use Rattle.cjc_components.specs.ClassFile.declared.tree.MethodTree.{MethodTree}
-use Rattle.cjc_pool.specs.Bytecode.Decoded.{decoded, decoding, insns_of, of_code, of_method}
-use Rattle.cjc_pool.specs.Bytecode.declared.method_code.MethodCode.{MethodCode}
-use Rattle.cjc_components.specs.LowerLowerTypes.Flow.{body_of}
-use Rattle.cjc_components.specs.LowerLowerTypes.Tables.{IsMethodOf}
-use Rattle.cjc_components.specs.Narrow.Pairs.Roles.{with_pairs}
-use Rattle.cjc_components.specs.LowerLowerTypes.declared.state.State.{State}
-use Rattle.cjc_components.specs.LowerLowerTypes.declared.table.TypeTable.{TypeTable}
+use Rattle.cjc_world.specs.ClassFile.Code.{CodeTree}
+use Rattle.cjc_world.specs.ClassFile.declared.tree.ClassTree.{ClassTree}
+use Rattle.cjc_world.specs.ClassFile.declared.tree.MethodTree.{MethodTree}
+use Rattle.cjc_components.specs.Bytecode.Decoded.{decoded, decoding, insns_of, of_code, of_method}
+use Rattle.cjc_components.specs.Bytecode.declared.method_code.MethodCode.{MethodCode}
+use Rattle.cjc_narrow.specs.Types.Flow.{body_of}
+use Rattle.cjc_narrow.specs.Types.Tables.{IsMethodOf}
+use Rattle.cjc_narrow.specs.Pairs.Roles.{with_pairs}
+use Rattle.cjc_narrow.specs.Types.declared.state.State.{State}
+use Rattle.cjc_narrow.specs.Types.declared.table.TypeTable.{TypeTable}
 use Rattle.cjc_world.specs.declared.found.Found.{Found}
 use Rattle.cjc_world.specs.Classes.{Class, Member, declared, all_classes, class_at}
 use Rattle.cjc_world.specs.Files.{Files}
-use Rattle.cjc_components.specs.JvmSemantics.Linked.{Method}
-use Rattle.cjc_components.specs.JvmSemantics.OnePackage.{method_at, method_by, method_in}
-use Rattle.cjc_components.specs.Narrow.Rows.Package.{code_of, flags_of}
-use Rattle.cjc_components.specs.Narrow.Rows.Resolved.{argument_words, method_found, resolution}
-use Rattle.cjc_components.specs.Narrow.Rows.Selected.{selected_code}
-use Rattle.cjc_components.specs.NCode.Written.{narrow_method}
-use Rattle.cjc_components.specs.Narrow.Written.Rows.{by_rows_there, has_rows, has_rows_by, rows_by}
+use Rattle.cjc_pool.specs.JvmSemantics.Linked.{Method}
+use Rattle.cjc_pool.specs.JvmSemantics.OnePackage.{method_at, method_by, method_in}
+use Rattle.cjc_narrow.specs.Rows.Package.{code_of, flags_of}
+use Rattle.cjc_narrow.specs.Rows.Resolved.{argument_words, method_found, resolution}
+use Rattle.cjc_narrow.specs.Rows.Selected.{selected_code}
+use Rattle.cjc_pool.specs.NCode.Written.{narrow_method}
+use Rattle.cjc_narrow.specs.Written.Rows.{by_rows_there, has_rows, has_rows_by, rows_by}
 use Rattle.cjc_components.specs.Descriptor as Descriptor
 use Rattle.cjc_components.specs.Written.{added_words, code_at, code_by, no_code}
 use Rattle.cjc_methods.specs.Ready.{AreReady, AreRows, states}

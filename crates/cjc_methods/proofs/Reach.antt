@@ -4,11 +4,11 @@ use Rattle.std.proofs.Common.{append_assoc, append-nil}
 use Rattle.std.specs.Prelude.{slice_get, Option, Some, None, option_map, is_some}
 use Rattle.std.proofs.lemmas.List.{drop_all, length-append}
 use Rattle.std.proofs.lemmas.Option.{slice_get_within, get_or_from_slice_get}
-use Rattle.cjc_pool.specs.Fixpoint.Walks.{Walking}
-use Rattle.cjc_components.specs.LowerLowerTypes.declared.state.State.{State}
-use Rattle.cjc_components.specs.LowerLowerTypes.declared.table.Frame.{Frame}
-use Rattle.cjc_components.specs.LowerLowerTypes.Tables.{state_of}
-use Rattle.cjc_components.specs.Narrow.Written.Rows.{has_rows}
+use Rattle.cjc_components.specs.Fixpoint.Walks.{Walking}
+use Rattle.cjc_narrow.specs.Types.declared.state.State.{State}
+use Rattle.cjc_narrow.specs.Types.declared.table.Frame.{Frame}
+use Rattle.cjc_narrow.specs.Types.Tables.{state_of}
+use Rattle.cjc_narrow.specs.Written.Rows.{has_rows}
 use Rattle.cjc_bytes.proofs.Gets.{from_index}
 
 same_there : (f : Option Frame) → is_some (option_map state_of f) ≡ is_some f

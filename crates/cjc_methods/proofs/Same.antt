@@ -2,16 +2,16 @@
 use Rattle.std.proofs.Common.{◌≡◌, ℕ, sym, ap, subst, ◌∙◌, Bool, List}
 use Rattle.std.specs.Prelude.{Some}
 use Rattle.cjc_bytes.specs.declared.fault.MemberId.{MemberId}
-use Rattle.cjc_components.specs.ClassFile.Code.{CodeTree}
-use Rattle.cjc_components.specs.ClassFile.declared.tree.ClassTree.{ClassTree}
-use Rattle.cjc_components.specs.ClassFile.declared.tree.MethodTree.{MethodTree}
-use Rattle.cjc_pool.specs.Bytecode.declared.insn.JInsn.{JInsn}
-use Rattle.cjc_components.specs.LowerLowerTypes.Flow.{body_of}
-use Rattle.cjc_components.specs.LowerLowerTypes.Marks.{marks_of}
+use Rattle.cjc_world.specs.ClassFile.Code.{CodeTree}
+use Rattle.cjc_world.specs.ClassFile.declared.tree.ClassTree.{ClassTree}
+use Rattle.cjc_world.specs.ClassFile.declared.tree.MethodTree.{MethodTree}
+use Rattle.cjc_components.specs.Bytecode.declared.insn.JInsn.{JInsn}
+use Rattle.cjc_narrow.specs.Types.Flow.{body_of}
+use Rattle.cjc_narrow.specs.Types.Marks.{marks_of}
 use Rattle.cjc_world.specs.Files.{Files}
-use Rattle.cjc_components.specs.Narrow.Rows.Selected.{selected_code}
-use Rattle.cjc_components.specs.Narrow.Written.Rows.{rows_by}
-use Rattle.cjc_components.specs.Narrow.Select.Select.{IsSelectable}
+use Rattle.cjc_narrow.specs.Rows.Selected.{selected_code}
+use Rattle.cjc_narrow.specs.Written.Rows.{rows_by}
+use Rattle.cjc_narrow.specs.Select.Select.{IsSelectable}
 
 pub tree_same : (method m : MethodTree) (tree t : CodeTree) → method.code ≡ Some tree → method ≡ m → m.code ≡ Some t
     → tree ≡ t

@@ -10,7 +10,7 @@ use Rattle.cjc_bytes.specs.Breaks.{RulePlace, class_spot, each_from, member_spot
 use Rattle.cjc_bytes.specs.Order.{FilePlace, file_of}
 use Rattle.cjc_bytes.specs.Refused.{in_class as in_class_place, method_text}
 use Rattle.cjc_bytes.proofs.BrokenRules.{not_broken, empty_both}
-use Rattle.cjc_components.specs.ClassFile.declared.tree.ClassTree.{ClassTree}
+use Rattle.cjc_world.specs.ClassFile.declared.tree.ClassTree.{ClassTree}
 use Rattle.cjc_world.specs.declared.found.Found.{Found}
 use Rattle.cjc_world.specs.Classes.{Class, Member, all_classes, class_at, declared, field_of_class, method_of_class}
 use Rattle.cjc_world.specs.Files.{Files}

@@ -2,30 +2,30 @@
 -- selected and laid out.
 use Rattle.std.specs.Prelude.{◌≡◌, ℕ, ◌≤◌, List, length, map, slice_get, false, Option, Some, Ok}
 use Rattle.cjc_bytes.specs.declared.fault.MemberId.{MemberId}
-use Rattle.cjc_components.specs.ClassFile.Code.{CodeTree}
-use Rattle.cjc_components.specs.ClassFile.declared.tree.ClassTree.{ClassTree}
-use Rattle.cjc_components.specs.ClassFile.declared.tree.MethodTree.{MethodTree}
-use Rattle.cjc_pool.specs.Bytecode.Decoded.{decoding}
-use Rattle.cjc_pool.specs.Bytecode.PackageCodes.{all_codes}
-use Rattle.cjc_pool.specs.Bytecode.declared.insn.JInsn.{JInsn}
-use Rattle.cjc_pool.specs.Bytecode.declared.method_code.MethodCode.{MethodCode}
-use Rattle.cjc_components.specs.LowerLowerTypes.Flow.{body_of}
-use Rattle.cjc_components.specs.LowerLowerTypes.Tables.{IsMethodOf, IsTypeTable, rows_of}
-use Rattle.cjc_components.specs.LowerLowerTypes.declared.state.State.{State}
-use Rattle.cjc_components.specs.LowerLowerTypes.declared.table.TypeTable.{TypeTable}
+use Rattle.cjc_world.specs.ClassFile.Code.{CodeTree}
+use Rattle.cjc_world.specs.ClassFile.declared.tree.ClassTree.{ClassTree}
+use Rattle.cjc_world.specs.ClassFile.declared.tree.MethodTree.{MethodTree}
+use Rattle.cjc_components.specs.Bytecode.Decoded.{decoding}
+use Rattle.cjc_components.specs.Bytecode.PackageCodes.{all_codes}
+use Rattle.cjc_components.specs.Bytecode.declared.insn.JInsn.{JInsn}
+use Rattle.cjc_components.specs.Bytecode.declared.method_code.MethodCode.{MethodCode}
+use Rattle.cjc_narrow.specs.Types.Flow.{body_of}
+use Rattle.cjc_narrow.specs.Types.Tables.{IsMethodOf, IsTypeTable, rows_of}
+use Rattle.cjc_narrow.specs.Types.declared.state.State.{State}
+use Rattle.cjc_narrow.specs.Types.declared.table.TypeTable.{TypeTable}
 use Rattle.cjc_world.specs.declared.found.Found.{Found}
 use Rattle.cjc_world.specs.Classes.{Class, all_classes, class_at}
 use Rattle.cjc_world.specs.Files.{Files}
 use Rattle.cjc_world.specs.Order.{in_order}
-use Rattle.cjc_components.specs.JvmSemantics.Linked.{Method}
-use Rattle.cjc_components.specs.JvmSemantics.OnePackage.{method_by}
-use Rattle.cjc_components.specs.Narrow.Rows.Package.{flags_of}
-use Rattle.cjc_components.specs.Narrow.Rows.Resolved.{method_found}
-use Rattle.cjc_components.specs.Narrow.Rows.Selected.{selected_code}
-use Rattle.cjc_components.specs.Narrow.Written.Rows.{has_rows, rows_by}
-use Rattle.cjc_components.specs.Narrow.Select.Select.{IsSelectable}
-use Rattle.cjc_components.specs.Layout.Layouts.{IsWhole}
-use Rattle.cjc_components.specs.Subset.Ints.{code_works_on_int}
+use Rattle.cjc_pool.specs.JvmSemantics.Linked.{Method}
+use Rattle.cjc_pool.specs.JvmSemantics.OnePackage.{method_by}
+use Rattle.cjc_narrow.specs.Rows.Package.{flags_of}
+use Rattle.cjc_narrow.specs.Rows.Resolved.{method_found}
+use Rattle.cjc_narrow.specs.Rows.Selected.{selected_code}
+use Rattle.cjc_narrow.specs.Written.Rows.{has_rows, rows_by}
+use Rattle.cjc_narrow.specs.Select.Select.{IsSelectable}
+use Rattle.cjc_pool.specs.Layout.Layouts.{IsWhole}
+use Rattle.cjc_pool.specs.Subset.Ints.{code_works_on_int}
 
 -- ---- classes and members
 

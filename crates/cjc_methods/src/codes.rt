@@ -2,11 +2,11 @@
 //! and the pool on what code names: so code is selected once to know the pool, and again by the indices that it has.
 
 ghost use Rattle.std.specs.Prelude.{◌≡◌, List, Option, false, All, map, IfOk};
-ghost use Rattle.cjc_components.specs.LowerLowerTypes.declared.state.State.{State as Before};
-ghost use Rattle.cjc_components.specs.JvmSemantics.Linked.{Method};
-ghost use Rattle.cjc_components.specs.NCode.PoolOrder.{pool_order};
-ghost use Rattle.cjc_components.specs.Narrow.Rows.Selected.{near_fields};
-ghost use Rattle.cjc_components.specs.Subset.Ints.{any_works_on_int};
+ghost use Rattle.cjc_narrow.specs.Types.declared.state.State.{State as Before};
+ghost use Rattle.cjc_pool.specs.JvmSemantics.Linked.{Method};
+ghost use Rattle.cjc_pool.specs.NCode.PoolOrder.{pool_order};
+ghost use Rattle.cjc_narrow.specs.Rows.Selected.{near_fields};
+ghost use Rattle.cjc_pool.specs.Subset.Ints.{any_works_on_int};
 ghost use Rattle.cjc_components.specs.Written.{code_at};
 ghost use Rattle.cjc_methods.specs.Ready.{AreReady, AreRows, IsOwn};
 ghost use Rattle.cjc_methods.specs.Words.{HasRoom};
@@ -14,10 +14,10 @@ ghost use Rattle.cjc_methods.specs.Words.{HasRoom};
 use crate::places::class_places;
 use crate::selecting::{Sources, codes_at};
 use cjc_bytes::{NoMemory, Row};
-use cjc_components::bytecode::MethodCode;
-use cjc_components::narrow::keys::{Numbers, number};
-use cjc_components::ncode::NMethod;
-use cjc_components::types::TypeTable;
+use cjc_narrow::bytecode::MethodCode;
+use cjc_narrow::keys::{Numbers, number};
+use cjc_narrow::ncode::NMethod;
+use cjc_narrow::types::TypeTable;
 use cjc_world::{Found, World};
 use std::alloc::Global;
 

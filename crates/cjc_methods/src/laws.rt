@@ -3,19 +3,19 @@
 
 ghost use Rattle.std.specs.Prelude.{◌≡◌, List, Option, All, map};
 ghost use Rattle.cjc_bytes.specs.declared.fault.MemberId.{MemberId};
-ghost use Rattle.cjc_pool.specs.Bytecode.declared.method_code.MethodCode.{MethodCode};
-ghost use Rattle.cjc_components.specs.List.Listed.{ListTree};
-ghost use Rattle.cjc_components.specs.LowerLowerTypes.declared.state.State.{State};
-ghost use Rattle.cjc_components.specs.LowerLowerTypes.declared.table.TypeTable.{TypeTable};
+ghost use Rattle.cjc_components.specs.Bytecode.declared.method_code.MethodCode.{MethodCode};
+ghost use Rattle.cjc_pool.specs.List.Listed.{ListTree};
+ghost use Rattle.cjc_narrow.specs.Types.declared.state.State.{State};
+ghost use Rattle.cjc_narrow.specs.Types.declared.table.TypeTable.{TypeTable};
 ghost use Rattle.cjc_world.specs.declared.found.Found.{Found};
 ghost use Rattle.cjc_world.specs.Classes.{all_classes};
 ghost use Rattle.cjc_world.specs.Files.{Files};
 ghost use Rattle.cjc_world.specs.Order.{method_order};
-ghost use Rattle.cjc_components.specs.JvmSemantics.Linked.{Method};
-ghost use Rattle.cjc_components.specs.NCode.declared.narrow.NMethod.{NMethod};
-ghost use Rattle.cjc_components.specs.NCode.PoolOrder.{pool_order};
-ghost use Rattle.cjc_components.specs.Narrow.Rows.Selected.{near_fields};
-ghost use Rattle.cjc_components.specs.Layout.Layouts.{IsWhole};
+ghost use Rattle.cjc_pool.specs.JvmSemantics.Linked.{Method};
+ghost use Rattle.cjc_pool.specs.NCode.declared.narrow.NMethod.{NMethod};
+ghost use Rattle.cjc_pool.specs.NCode.PoolOrder.{pool_order};
+ghost use Rattle.cjc_narrow.specs.Rows.Selected.{near_fields};
+ghost use Rattle.cjc_pool.specs.Layout.Layouts.{IsWhole};
 ghost use Rattle.cjc_components.specs.Package.{Package, codes};
 ghost use Rattle.cjc_components.specs.Written.{IsPackage, code_at};
 ghost use Rattle.cjc_methods.specs.Ready.{AreReady, AreRows, IsOwn};

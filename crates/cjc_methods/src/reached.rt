@@ -1,17 +1,17 @@
 //! Which instructions of a method are reached: those before which its types have a frame. It knows no narrow code.
 
 ghost use Rattle.std.specs.Prelude.{◌≡◌, List, IfOk};
-ghost use Rattle.cjc_components.specs.ClassFile.Code.{CodeTree};
-ghost use Rattle.cjc_components.specs.ClassFile.declared.tree.ClassTree.{ClassTree as ClassFile};
-ghost use Rattle.cjc_components.specs.ClassFile.declared.tree.MethodTree.{MethodTree as ClassMethod};
-ghost use Rattle.cjc_components.specs.LowerLowerTypes.Flow.{body_of};
-ghost use Rattle.cjc_components.specs.LowerLowerTypes.Tables.{IsMethodOf, IsOfPackage, IsTypeTable, rows_of};
+ghost use Rattle.cjc_world.specs.ClassFile.Code.{CodeTree};
+ghost use Rattle.cjc_world.specs.ClassFile.declared.tree.ClassTree.{ClassTree as ClassFile};
+ghost use Rattle.cjc_world.specs.ClassFile.declared.tree.MethodTree.{MethodTree as ClassMethod};
+ghost use Rattle.cjc_narrow.specs.Types.Flow.{body_of};
+ghost use Rattle.cjc_narrow.specs.Types.Tables.{IsMethodOf, IsOfPackage, IsTypeTable, rows_of};
 ghost use Rattle.cjc_world.specs.Classes.{Class, all_classes};
-ghost use Rattle.cjc_components.specs.Narrow.Written.Rows.{has_rows};
+ghost use Rattle.cjc_narrow.specs.Written.Rows.{has_rows};
 
 use cjc_bytes::{NoMemory, Row};
-use cjc_components::bytecode::MethodCode;
-use cjc_components::types::{Method, TypeTable, TypeWalk};
+use cjc_narrow::bytecode::MethodCode;
+use cjc_narrow::types::{Method, TypeTable, TypeWalk};
 use cjc_world::World;
 use std::alloc::Global;
 

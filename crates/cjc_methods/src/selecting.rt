@@ -2,20 +2,20 @@
 //! first to know the pool, and again by its indices.
 
 ghost use Rattle.std.specs.Prelude.{◌≡◌, ◌∷◌, ◌++◌, List, Option, Some, false, All, length, map, slice_get, IfOk, OnOk};
-ghost use Rattle.cjc_components.specs.ClassFile.Code.{CodeTree};
-ghost use Rattle.cjc_components.specs.ClassFile.declared.tree.ClassTree.{ClassTree as ClassFile};
-ghost use Rattle.cjc_components.specs.ClassFile.declared.tree.MethodTree.{MethodTree as ClassMethod};
-ghost use Rattle.cjc_pool.specs.Bytecode.declared.method_code.MethodCode.{MethodCode as Code};
-ghost use Rattle.cjc_components.specs.LowerLowerTypes.declared.state.State.{State as Before};
-ghost use Rattle.cjc_components.specs.LowerLowerTypes.declared.table.TypeTable.{TypeTable as Types};
-ghost use Rattle.cjc_components.specs.LowerLowerTypes.Tables.{IsMethodOf, IsOfPackage};
+ghost use Rattle.cjc_world.specs.ClassFile.Code.{CodeTree};
+ghost use Rattle.cjc_world.specs.ClassFile.declared.tree.ClassTree.{ClassTree as ClassFile};
+ghost use Rattle.cjc_world.specs.ClassFile.declared.tree.MethodTree.{MethodTree as ClassMethod};
+ghost use Rattle.cjc_components.specs.Bytecode.declared.method_code.MethodCode.{MethodCode as Code};
+ghost use Rattle.cjc_narrow.specs.Types.declared.state.State.{State as Before};
+ghost use Rattle.cjc_narrow.specs.Types.declared.table.TypeTable.{TypeTable as Types};
+ghost use Rattle.cjc_narrow.specs.Types.Tables.{IsMethodOf, IsOfPackage};
 ghost use Rattle.cjc_world.specs.Classes.{Class, all_classes, class_at};
-ghost use Rattle.cjc_components.specs.JvmSemantics.Linked.{Method};
-ghost use Rattle.cjc_components.specs.Narrow.Rows.Selected.{near_fields, selected_code};
-ghost use Rattle.cjc_components.specs.Narrow.Written.Rows.{has_rows, rows_by};
+ghost use Rattle.cjc_pool.specs.JvmSemantics.Linked.{Method};
+ghost use Rattle.cjc_narrow.specs.Rows.Selected.{near_fields, selected_code};
+ghost use Rattle.cjc_narrow.specs.Written.Rows.{has_rows, rows_by};
 ghost use Rattle.cjc_components.specs.Descriptor.{method_in};
 ghost use Rattle.cjc_components.specs.Limits.{has_many_words};
-ghost use Rattle.cjc_components.specs.Subset.Ints.{any_works_on_int, code_works_on_int};
+ghost use Rattle.cjc_pool.specs.Subset.Ints.{any_works_on_int, code_works_on_int};
 ghost use Rattle.cjc_components.specs.Written.{code_at, no_code};
 ghost use Rattle.cjc_methods.specs.Ready.{AreReady, AreRows, IsOwn, IsReady, states};
 ghost use Rattle.cjc_methods.specs.Words.{HasRoom};
@@ -25,11 +25,11 @@ use crate::method::method_in;
 use crate::places::place_in;
 use crate::reached::reached;
 use cjc_bytes::{NoMemory, Row};
-use cjc_components::bytecode::MethodCode;
-use cjc_components::narrow::keys::Numbers;
-use cjc_components::narrow::select::{argument_words, select};
-use cjc_components::ncode::NMethod;
-use cjc_components::types::TypeTable;
+use cjc_narrow::bytecode::MethodCode;
+use cjc_narrow::keys::Numbers;
+use cjc_narrow::ncode::NMethod;
+use cjc_narrow::select::{argument_words, select};
+use cjc_narrow::types::TypeTable;
 use cjc_world::{Found, World};
 use std::alloc::Global;
 

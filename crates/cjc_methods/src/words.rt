@@ -17,7 +17,7 @@ use crate::method::{Signature, method_in};
 use cjc_bytes::{
     Break, Fault, NoMemory, Part, PlaceRef, RulePlace, answer, broken, file_of, first,
 };
-use cjc_components::narrow::select::argument_words;
+use cjc_narrow::select::argument_words;
 use cjc_world::{Found, World};
 use std::alloc::Global;
 

@@ -7,9 +7,14 @@ pub mod bytes {
     pub use cjc_types::bytes::{Fault, MemberId, NoMemory, Row, RulePlace, answer, broken};
 }
 
+/// What crates above take of bytecode.
+pub mod bytecode {
+    pub use cjc_types::bytecode::MethodCode;
+}
+
 /// What crates above take of script.
 pub mod script {
-    pub use cjc_jvm_semantics::script::{Note, Report, Value};
+    pub use cjc_jvm_semantics::script::{Note, Report, Script, Value};
 }
 
 /// What crates above take of world.
@@ -19,7 +24,7 @@ pub mod world {
 
 /// What crates above take of cjc_types.
 pub mod types {
-    pub use cjc_types::{Cell, Frame, Method, Operands, State, TypeTable, TypeWalk};
+    pub use cjc_types::{Cell, Frame, Method, Operands, TypeTable, TypeWalk};
 }
 
 /// What crates above take of cjc_ncode.

@@ -1,11 +1,11 @@
 //! Narrow code of class files: what its names stand for by the class files and export files of a package, and
 //! the look-ups of the machine that runs it. It knows no token and no offset of the components.
 ghost use Rattle.std.specs.Prelude.{◌≡◌, Bool, List};
-ghost use Rattle.cjc_ncode.specs.Bytes.declared.fault.MemberId.{MemberId};
+ghost use Rattle.cjc_types.specs.Bytes.declared.fault.MemberId.{MemberId};
 ghost use Rattle.cjc_types.specs.Flow.{Body};
 ghost use Rattle.cjc_ncode.specs.Written.{Resolution};
-ghost use Rattle.cjc_jvm_semantics.specs.World.declared.image.StaticImage.{StaticImage};
-ghost use Rattle.cjc_jvm_semantics.specs.World.Files.{Files};
+ghost use Rattle.cjc_types.specs.World.declared.image.StaticImage.{StaticImage};
+ghost use Rattle.cjc_types.specs.World.Files.{Files};
 ghost use Rattle.cjc_narrow.specs.Rows.Forms.{FormsOnly};
 ghost use Rattle.cjc_narrow.specs.Rows.Names.{FieldsAgreeIn, IsCounted};
 ghost use Rattle.cjc_narrow.specs.Written.Rows.{rows_by};

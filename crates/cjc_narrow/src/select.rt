@@ -7,8 +7,8 @@ ghost use Rattle.cjc_ncode.specs.declared.narrow.PairRole.TheVariants.{Opens};
 ghost use Rattle.cjc_narrow.specs.declared.select.pairs.PairStep.{PairStep};
 ghost use Rattle.cjc_narrow.specs.Pairs.Fusible.{FusesAll, IsClosed};
 ghost use Rattle.cjc_narrow.specs.Pairs.Roles.{roles_from};
-ghost use Rattle.cjc_ncode.specs.Bytes.declared.fault.MemberId.{MemberId as Member};
-ghost use Rattle.cjc_jvm_semantics.specs.World.Files.{Files};
+ghost use Rattle.cjc_types.specs.Bytes.declared.fault.MemberId.{MemberId as Member};
+ghost use Rattle.cjc_types.specs.World.Files.{Files};
 ghost use Rattle.cjc_ncode.specs.PoolOrder.{pool_order};
 ghost use Rattle.cjc_narrow.specs.Select.Forms.{Selection, all_selected};
 

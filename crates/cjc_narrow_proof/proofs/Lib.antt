@@ -15,5 +15,6 @@ pub use Rattle.cjc_vtable.proofs.Read as VTableRead
 pub use Rattle.cjc_vtable.proofs.Stood as VTableStood
 pub use Rattle.cjc_types.proofs.Least as TypesLeast
 pub use Rattle.cjc_types.proofs.TypeLaws.Standing as TypesStanding
+pub use Rattle.cjc_types.proofs.Typed as TypesTyped
 pub use Rattle.cjc_card_semantics.proofs.BytecodeLaws.Together as CardSemanticsTogether
 pub use Rattle.cjc_ncode.proofs.LoweringLaws.ByCode as NCodeByCode

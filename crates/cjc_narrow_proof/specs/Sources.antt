@@ -9,7 +9,7 @@ use Rattle.cjc_ncode.specs.declared.narrow.NInsn.TheVariants as insns
 use Rattle.cjc_ncode.specs.declared.narrow.PoolKey.TheVariants as keys
 use Rattle.cjc_ncode.specs.Written.{Resolution, field_access, nargs_of, static_access, this_access}
 use Rattle.cjc_script.specs.Sorts.{OfClass, OfReferences, Shape, field_sort, shape_named}
-use Rattle.cjc_ncode.specs.CapRead.Card as card
+use Rattle.cjc_card_semantics.specs.CapRead.Card as card
 
 -- it names nothing
 abbrev pub names_nothing : NInsn → Bool

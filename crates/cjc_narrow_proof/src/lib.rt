@@ -7,6 +7,11 @@ pub mod subset {
     pub use cjc_subset::any_works_on_int;
 }
 
+/// What crates above take of cjc_types.
+pub mod types {
+    pub use cjc_types::State;
+}
+
 /// What crates above take of cjc_intervals.
 pub mod intervals {
     pub use cjc_intervals::range_laws;

@@ -3,9 +3,9 @@
 //! here runs.
 ghost use Rattle.std.specs.Prelude.{◌≡◌, ◌≤◌, ℕ, Bool, List, Option, Some, slice_get};
 ghost use Rattle.cjc_bytes.specs.declared.fault.MemberId.{MemberId as Member};
-ghost use Rattle.cjc_subset.specs.ClassFile.Code.{CodeTree};
-ghost use Rattle.cjc_subset.specs.ClassFile.declared.tree.ClassTree.{ClassTree};
-ghost use Rattle.cjc_subset.specs.ClassFile.declared.tree.MethodTree.{MethodTree};
+ghost use Rattle.cjc_code.specs.ClassFile.Code.{CodeTree};
+ghost use Rattle.cjc_code.specs.ClassFile.declared.tree.ClassTree.{ClassTree};
+ghost use Rattle.cjc_code.specs.ClassFile.declared.tree.MethodTree.{MethodTree};
 ghost use Rattle.cjc_code.specs.declared.method_code.MethodCode.{MethodCode};
 ghost use Rattle.cjc_world.specs.Files.{Files};
 ghost use Rattle.cjc_types.specs.declared.state.State.{State as Before};
@@ -13,8 +13,8 @@ ghost use Rattle.cjc_types.specs.Flow.{body_of};
 ghost use Rattle.cjc_types.specs.Tables.{IsLeastTable, IsMethodOf};
 ghost use Rattle.cjc_narrow.specs.Rows.Selected.{selected_code};
 ghost use Rattle.cjc_narrow.specs.Written.Rows.{has_rows, rows_by};
-ghost use Rattle.cjc_emit.specs.Layout.Forms.{HasForm};
-ghost use Rattle.cjc_emit.specs.Layout.Layouts.{IsWhole};
+ghost use Rattle.cjc_emit.specs.LowerLayout.Forms.{HasForm};
+ghost use Rattle.cjc_emit.specs.LowerLayout.Layouts.{IsWhole};
 ghost use Rattle.cjc_bytes.specs.declared.settings.Settings.{Settings as Limits};
 ghost use Rattle.cjc_narrow.specs.Select.Select.{IsSelectable};
 ghost use Rattle.cjc_jvm_semantics.specs.Linked.{Method};

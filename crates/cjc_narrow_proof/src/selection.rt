@@ -8,7 +8,7 @@ ghost use Rattle.cjc_bytes.specs.declared.fault.MemberId.{MemberId};
 ghost use Rattle.cjc_range.specs.Span.{Span, span, Holds, Within, IsWord, short_range};
 ghost use Rattle.cjc_range.specs.Rows.{add_row, sub_row, mul_row, neg_row, div_row, rem_row, shl_row, shr_row};
 ghost use Rattle.cjc_range.specs.Rows.{ushr_row, and_row, or_row, to_byte_row, to_short_row};
-ghost use Rattle.cjc_subset.specs.ClassFile.declared.tree.Catch.{Catch};
+ghost use Rattle.cjc_code.specs.ClassFile.declared.tree.Catch.{Catch};
 ghost use Rattle.cjc_code.specs.Jvm as jvm;
 ghost use Rattle.cjc_code.specs.declared.insn.JCase.{JCase};
 ghost use Rattle.cjc_code.specs.declared.insn.JInsn.{JInsn};

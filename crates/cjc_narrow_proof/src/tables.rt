@@ -30,7 +30,7 @@ ghost use Rattle.cjc_narrow_proof.specs.Tables.Supported.{IsPlain, IsReturn};
 ghost use Rattle.cjc_narrow_proof.specs.Tables.Names.{IsResolved};
 ghost use Rattle.cjc_narrow_proof.specs.Tables.Arrays.{ClassesAreNamed, IsOnArray};
 ghost use Rattle.cjc_narrow_proof.specs.Tables.Calls.{IsCalled};
-ghost use Rattle.cjc_narrow.specs.Fixpoint.Tables.{HasRow};
+ghost use Rattle.cjc_types.specs.Fixpoint.Tables.{HasRow};
 ghost use Rattle.cjc_types.specs.Search.{cells_of};
 
 /// No instruction of a class file but athrow throws what is on the stack.

@@ -1,15 +1,15 @@
 -- The run of narrow code by label and name, on words of 16 bits: the machine of its look-ups.
 use Rattle.std.specs.Prelude.{ℕ, ◌+◌, ◌*◌, List, [], ◌∷◌, map, Option, Some, None, option_map, option_and_then, Bool}
 use Rattle.std.specs.Prelude.{true, false, nat_le, nat_lt, ◌==◌, ◌&&◌, if◌then◌else◌, slice_get, ℤ, pos, ◌+ℤ◌}
-use Rattle.cjc_code.specs.LowerBytes.declared.fault.MemberId.{MemberId}
-use Rattle.cjc_card_semantics.specs.LowerScript.declared.value.Value.{Value}
-use Rattle.cjc_card_semantics.specs.LowerScript.declared.script.Script.{Script}
-use Rattle.cjc_card_semantics.specs.LowerScript.declared.report.FieldValue.{FieldValue}
-use Rattle.cjc_card_semantics.specs.LowerScript.declared.report.Report.{Report}
-use Rattle.cjc_card_semantics.specs.LowerScript.Sorts.{Element, Booleans, Bytes, Shorts, Ints, Shape, OfClass}
-use Rattle.cjc_card_semantics.specs.LowerScript.Sorts.{OfNumbers}
-use Rattle.cjc_card_semantics.specs.LowerScript.Sorts.{OfReferences}
-use Rattle.cjc_card_semantics.specs.LowerScript.Sorts.{field_sort, zero_of}
+use Rattle.cjc_code.specs.Bytes.declared.fault.MemberId.{MemberId}
+use Rattle.cjc_card_semantics.specs.Script.declared.value.Value.{Value}
+use Rattle.cjc_card_semantics.specs.Script.declared.script.Script.{Script}
+use Rattle.cjc_card_semantics.specs.Script.declared.report.FieldValue.{FieldValue}
+use Rattle.cjc_card_semantics.specs.Script.declared.report.Report.{Report}
+use Rattle.cjc_card_semantics.specs.Script.Sorts.{Element, Booleans, Bytes, Shorts, Ints, Shape, OfClass}
+use Rattle.cjc_card_semantics.specs.Script.Sorts.{OfNumbers}
+use Rattle.cjc_card_semantics.specs.Script.Sorts.{OfReferences}
+use Rattle.cjc_card_semantics.specs.Script.Sorts.{field_sort, zero_of}
 use Rattle.cjc_card_semantics.specs.Bytecode.Calculations.{Fault}
 use Rattle.cjc_card_semantics.specs.Bytecode.Effects.{Arm, Slot, Memory, Classes, Operation, Do, Branch, Pick, Touch}
 use Rattle.cjc_card_semantics.specs.Bytecode.Effects.{Get, Put, GetStatic, PutStatic, Call, New, NewNumbers}

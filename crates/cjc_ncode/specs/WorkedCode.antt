@@ -2,20 +2,20 @@
 use Rattle.std.specs.Prelude.{ℕ, List, [], ◌∷◌, Option, Some, None, Bool, true, false, replicate, ◌==◌, ◌&&◌, ◌||◌}
 use Rattle.std.specs.Prelude.{if◌then◌else◌, pos, codes}
 use Rattle.std.specs.Str.{bytes_eq}
-use Rattle.cjc_code.specs.LowerBytes.declared.fault.MemberId.{MemberId}
-use Rattle.cjc_code.specs.LowerClassFile.Code.{CodeTree}
-use Rattle.cjc_code.specs.LowerClassFile.declared.tree.Catch.{Catch}
+use Rattle.cjc_code.specs.Bytes.declared.fault.MemberId.{MemberId}
+use Rattle.cjc_code.specs.ClassFile.Code.{CodeTree}
+use Rattle.cjc_code.specs.ClassFile.declared.tree.Catch.{Catch}
 use Rattle.cjc_code.specs.declared.insn.JInsn.{JInsn}
 use Rattle.cjc_code.specs.declared.insn.JOp.{JOp}
 use Rattle.cjc_code.specs.declared.insn.JOp.TheVariants as jop
-use Rattle.cjc_card_semantics.specs.LowerScript.declared.value.Value.{Value}
-use Rattle.cjc_card_semantics.specs.LowerScript.declared.script.Entry.{Entry}
-use Rattle.cjc_card_semantics.specs.LowerScript.declared.script.Script.{Script}
-use Rattle.cjc_card_semantics.specs.LowerScript.declared.report.Note.{Note}
-use Rattle.cjc_card_semantics.specs.LowerScript.declared.report.Outcome.{Outcome}
-use Rattle.cjc_card_semantics.specs.LowerScript.declared.report.Report.{Report}
-use Rattle.cjc_card_semantics.specs.LowerScript.declared.report.Thing.{Thing}
-use Rattle.cjc_card_semantics.specs.LowerScript.Sorts.{Shape, OfClass}
+use Rattle.cjc_card_semantics.specs.Script.declared.value.Value.{Value}
+use Rattle.cjc_card_semantics.specs.Script.declared.script.Entry.{Entry}
+use Rattle.cjc_card_semantics.specs.Script.declared.script.Script.{Script}
+use Rattle.cjc_card_semantics.specs.Script.declared.report.Note.{Note}
+use Rattle.cjc_card_semantics.specs.Script.declared.report.Outcome.{Outcome}
+use Rattle.cjc_card_semantics.specs.Script.declared.report.Report.{Report}
+use Rattle.cjc_card_semantics.specs.Script.declared.report.Thing.{Thing}
+use Rattle.cjc_card_semantics.specs.Script.Sorts.{Shape, OfClass}
 use Rattle.cjc_card_semantics.specs.Bytecode.Calculations.{Fault, Arithmetic}
 use Rattle.cjc_card_semantics.specs.Bytecode.Machine.{Start, Reached, Nowhere, Within}
 use Rattle.cjc_ncode.specs.declared.narrow.NInsn.{NInsn}

@@ -4,23 +4,23 @@ use Rattle.std.specs.Prelude.{ℕ, ◌+◌, ◌-◌, ◌*◌, List, [], ◌∷�
 use Rattle.std.specs.Prelude.{Some, None, Bool, true, false, nat_le, nat_lt, ◌==◌, ◌&&◌, if◌then◌else◌, ℤ, pos, negsuc}
 use Rattle.std.specs.Prelude.{◌+ℤ◌}
 use Rattle.std.specs.Int.RustNames.{int_le}
-use Rattle.cjc_code.specs.LowerBytes.declared.fault.MemberId.{MemberId}
-use Rattle.cjc_code.specs.LowerClassFile.Code.{CodeTree}
-use Rattle.cjc_code.specs.LowerClassFile.declared.tree.Catch.{Catch}
+use Rattle.cjc_code.specs.Bytes.declared.fault.MemberId.{MemberId}
+use Rattle.cjc_code.specs.ClassFile.Code.{CodeTree}
+use Rattle.cjc_code.specs.ClassFile.declared.tree.Catch.{Catch}
 use Rattle.cjc_code.specs.declared.insn.JInsn.{JInsn}
 use Rattle.cjc_code.specs.declared.insn.JCase.{JCase}
 use Rattle.cjc_code.specs.declared.insn.JOp.{JOp}
 use Rattle.cjc_code.specs.declared.insn.JOp.TheVariants as jop
 use Rattle.cjc_code.specs.Jvm as jvm
-use Rattle.cjc_card_semantics.specs.LowerScript.Sorts.{Sort, Boolean, Byte, Short, Int, Signature, Shape, OfClass}
-use Rattle.cjc_card_semantics.specs.LowerScript.Sorts.{OfNumbers}
-use Rattle.cjc_card_semantics.specs.LowerScript.Sorts.{OfReferences}
-use Rattle.cjc_card_semantics.specs.LowerScript.Sorts.{Booleans, Bytes, Shorts, Ints, field_sort, signature_of}
-use Rattle.cjc_card_semantics.specs.LowerScript.Sorts.{shape_named}
+use Rattle.cjc_card_semantics.specs.Script.Sorts.{Sort, Boolean, Byte, Short, Int, Signature, Shape, OfClass}
+use Rattle.cjc_card_semantics.specs.Script.Sorts.{OfNumbers}
+use Rattle.cjc_card_semantics.specs.Script.Sorts.{OfReferences}
+use Rattle.cjc_card_semantics.specs.Script.Sorts.{Booleans, Bytes, Shorts, Ints, field_sort, signature_of}
+use Rattle.cjc_card_semantics.specs.Script.Sorts.{shape_named}
 use Rattle.cjc_card_semantics.specs.Bytecode.Arguments.{widths}
 use Rattle.cjc_card_semantics.specs.Bytecode.Numbers.{is_word}
-use Rattle.cjc_code.specs.LowerRange.Words.{low_word}
-use Rattle.cjc_card_semantics.specs.LowerCapRead.Card as card
+use Rattle.cjc_code.specs.Range.Words.{low_word}
+use Rattle.cjc_card_semantics.specs.CapRead.Card as card
 use Rattle.cjc_ncode.specs.declared.narrow.NCase.{NCase}
 use Rattle.cjc_ncode.specs.declared.narrow.NInsn.{NInsn}
 use Rattle.cjc_ncode.specs.declared.narrow.NInsn.TheVariants.{Op, Push, Local, Inc, Words, Jump, Switch, Named}

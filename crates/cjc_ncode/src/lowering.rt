@@ -2,8 +2,8 @@
 //! token runs them, by token and offset. Whoever emits components cites them. It has no code that runs, and
 //! knows no class file, no interval, and not how a table or a layout was made.
 ghost use Rattle.std.specs.Prelude.{◌≡◌, ◌<◌, ◌≤◌, ℕ, Bool, false, List, length, slice_get, codes, Some, None, ℤ};
-ghost use Rattle.cjc_code.specs.LowerBytes.declared.fault.MemberId.{MemberId};
-ghost use Rattle.cjc_card_semantics.specs.LowerScript.Sorts.{Shape};
+ghost use Rattle.cjc_code.specs.Bytes.declared.fault.MemberId.{MemberId};
+ghost use Rattle.cjc_card_semantics.specs.Script.Sorts.{Shape};
 ghost use Rattle.cjc_card_semantics.specs.Bytecode.Meanings.{meaning};
 ghost use Rattle.cjc_card_semantics.specs.Bytecode.Renaming.{option_as, shape_as};
 ghost use Rattle.cjc_card_semantics.specs.Bytecode.Alike.{SettingsAlike, RunsAgree, RunsStickAlike, KnownState, IsFree};

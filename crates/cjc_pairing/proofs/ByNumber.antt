@@ -7,14 +7,14 @@ use Rattle.std.specs.Str.{bytes_eq}
 use Rattle.std.proofs.lemmas.List.{map-append, length-map}
 use Rattle.std.proofs.lemmas.List.Concat.{flat_map_single}
 use Rattle.std.proofs.lemmas.List.Sums.{sum_by-cons}
-use Rattle.cjc_classes.specs.LowerClassOrder.Classes.Numbers.{declared_at}
-use Rattle.cjc_card_link.specs.ClassFile.declared.tree.ClassTree.{ClassTree}
-use Rattle.cjc_card_link.specs.ClassFile.declared.tree.MethodTree.{MethodTree}
+use Rattle.cjc_classes.specs.ClassOrder.Classes.Numbers.{declared_at}
+use Rattle.cjc_classes.specs.ClassFile.declared.tree.ClassTree.{ClassTree}
+use Rattle.cjc_classes.specs.ClassFile.declared.tree.MethodTree.{MethodTree}
 use Rattle.cjc_classes.proofs.TypeInfo.Order.{added_is, along_order}
-use Rattle.cjc_classes.specs.World.Added.{added, added_at, named_by}
-use Rattle.cjc_classes.specs.World.Classes.{Class, all_classes, declared, field_of_class, method_of_class}
-use Rattle.cjc_classes.specs.World.Files.{Files}
-use Rattle.cjc_classes.specs.World.Order.{class_order, in_order, methods_of_class, places, written}
+use Rattle.cjc_card_link.specs.World.Added.{added, added_at, named_by}
+use Rattle.cjc_card_link.specs.World.Classes.{Class, all_classes, declared, field_of_class, method_of_class}
+use Rattle.cjc_card_link.specs.World.Files.{Files}
+use Rattle.cjc_card_link.specs.World.Order.{class_order, in_order, methods_of_class, places, written}
 use Rattle.cjc_pairing.specs.Working.Counts.{count_at, count_in, count_where, is_written}
 
 written_count : (c : Class) (k : ℕ) (ms : List MethodTree) → length (written c k (map method_of_class ms))

@@ -5,15 +5,15 @@ use Rattle.std.specs.Prelude.{◌==◌, option_to_list}
 use Rattle.std.proofs.lemmas.Bool.Decides.{nat_tests}
 use Rattle.std.proofs.lemmas.List.{drop_more, drop_all}
 use Rattle.cjc_classes.proofs.BytesFirsts.{first_of_one}
-use Rattle.cjc_classes.specs.Bytes.Breaks.{Break, IsFirst, IsFirstOf}
-use Rattle.cjc_card_link.specs.CapRead.declared.tree.ClassDescriptor.{ClassDescriptor}
-use Rattle.cjc_classes.specs.Components.Paired.Pairs.{head_of, methods_spots}
-use Rattle.cjc_card_link.specs.CheckRules.Complete.{described_size}
-use Rattle.cjc_card_link.specs.CheckRules.Consistent.{break_at}
-use Rattle.cjc_card_link.specs.CheckRules.declared.spot.ComponentPlace.{ComponentPlace}
-use Rattle.cjc_card_link.specs.CheckRules.Spots.{beside, in_info, unless}
-use Rattle.cjc_classes.specs.World.Classes.{Class}
-use Rattle.cjc_classes.specs.World.Order.{methods_of_class}
+use Rattle.cjc_card_link.specs.Bytes.Breaks.{Break, IsFirst, IsFirstOf}
+use Rattle.cjc_card_link.specs.LowerCapRead.declared.tree.ClassDescriptor.{ClassDescriptor}
+use Rattle.cjc_classes.specs.LowerComponents.Paired.Pairs.{head_of, methods_spots}
+use Rattle.cjc_classes.specs.CheckRules.Complete.{described_size}
+use Rattle.cjc_classes.specs.CheckRules.Consistent.{break_at}
+use Rattle.cjc_classes.specs.CheckRules.declared.spot.ComponentPlace.{ComponentPlace}
+use Rattle.cjc_classes.specs.CheckRules.Spots.{beside, in_info, unless}
+use Rattle.cjc_card_link.specs.World.Classes.{Class}
+use Rattle.cjc_card_link.specs.World.Order.{methods_of_class}
 use Rattle.cjc_pairing.specs.Working.Heads.{count_spots_at}
 
 -- ---- classes beside numbers

@@ -1,11 +1,13 @@
 pub mod Working
 pub mod CardNames
 -- Definitions of lower crates, for those above.
-pub mod List
-pub mod Bytecode
-pub mod ClassOrder
-pub mod Tokens
-pub mod VTable
-pub mod NCode
-pub mod CardLink
-pub mod Components
+pub mod ExportFile
+pub mod Script
+pub mod CapWrite
+pub mod World
+pub mod Subset
+pub mod Clinit
+pub mod CheckRules
+pub mod CheckIndex
+pub mod CardSemantics
+pub mod CardFrame

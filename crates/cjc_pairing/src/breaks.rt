@@ -2,11 +2,11 @@
 //! in their order.
 
 ghost use Rattle.std.specs.Prelude.{◌≡◌, ◌+◌, ◌++◌, ◌<◌, ◌^◌, List, option_map};
-ghost use Rattle.cjc_classes.specs.Bytes.Breaks.{broken_at};
-ghost use Rattle.cjc_classes.specs.Bytes.Told.{break_of};
-ghost use Rattle.cjc_card_link.specs.CheckRules.Consistent.{break_at};
-ghost use Rattle.cjc_card_link.specs.CheckRules.declared.spot.ComponentPlace.{ComponentPlace as Place};
-ghost use Rattle.cjc_card_link.specs.CheckRules.Spots.{in_info, unless};
+ghost use Rattle.cjc_card_link.specs.Bytes.Breaks.{broken_at};
+ghost use Rattle.cjc_card_link.specs.Bytes.Told.{break_of};
+ghost use Rattle.cjc_classes.specs.CheckRules.Consistent.{break_at};
+ghost use Rattle.cjc_classes.specs.CheckRules.declared.spot.ComponentPlace.{ComponentPlace as Place};
+ghost use Rattle.cjc_classes.specs.CheckRules.Spots.{in_info, unless};
 ghost use Rattle.cjc_pairing.specs.Working.Heads.{IsHead, place_in};
 
 use cjc_classes::bytes::{Break, FileKey, Part, PlaceRef, RulePlace};

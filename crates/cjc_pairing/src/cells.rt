@@ -1,8 +1,8 @@
 //! The bytes of static cells (Java Card Virtual Machine Specification 2.2.2, section 6.10). It knows no class.
 
 ghost use Rattle.std.specs.Prelude.{◌≡◌, ◌+◌, ◌==◌, length, sum_by, IfOk};
-ghost use Rattle.cjc_classes.specs.Components.Statics.{cell_size, size_of_field};
-ghost use Rattle.cjc_classes.specs.Components.Paired.Pairs.{has_cells, number_bytes};
+ghost use Rattle.cjc_classes.specs.LowerComponents.Statics.{cell_size, size_of_field};
+ghost use Rattle.cjc_classes.specs.LowerComponents.Paired.Pairs.{has_cells, number_bytes};
 ghost use Rattle.cjc_classes.specs.TypeInfo.Meant.{sort_meant};
 
 use crate::counts::sum;

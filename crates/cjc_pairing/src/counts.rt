@@ -3,8 +3,8 @@
 
 ghost use Rattle.std.specs.Prelude.{◌≡◌, ◌+◌, ◌++◌, ◌<◌, length, map, count_by, IfOk, OnOk};
 ghost use Rattle.std.specs.List.{flat_map};
-ghost use Rattle.cjc_classes.specs.World.Classes.{all_classes};
-ghost use Rattle.cjc_classes.specs.World.Order.{class_order, methods_of_class};
+ghost use Rattle.cjc_card_link.specs.World.Classes.{all_classes};
+ghost use Rattle.cjc_card_link.specs.World.Order.{class_order, methods_of_class};
 ghost use Rattle.cjc_pairing.specs.Working.Counts.{count_at, count_in, is_written};
 
 use cjc_card_link::classfile::{ClassTree, MethodTree};

@@ -1,11 +1,11 @@
 //! Components beside class files: the first place where they are not of the package.
 
 ghost use Rattle.std.specs.Prelude.{◌≡◌, ◌+◌, ◌<◌, ◌^◌, ◌==◌, [], length, IfErr, IfOk, OnOk};
-ghost use Rattle.cjc_classes.specs.Bytes.Breaks.{IsFirstRefusal};
-ghost use Rattle.cjc_card_link.specs.CheckIndex.Lookup.Parts.{complete_of};
-ghost use Rattle.cjc_classes.specs.Components.Paired.Pairs.{ArePaired, cell_spots, info_count, pair_breaks};
-ghost use Rattle.cjc_card_link.specs.CheckRules.Complete.{AreSmall, described_size, descriptor_size};
-ghost use Rattle.cjc_card_link.specs.CheckRules.Spots.{beside, in_info, unless};
+ghost use Rattle.cjc_card_link.specs.Bytes.Breaks.{IsFirstRefusal};
+ghost use Rattle.cjc_card_link.specs.LowerCheckIndex.Lookup.Parts.{complete_of};
+ghost use Rattle.cjc_classes.specs.LowerComponents.Paired.Pairs.{ArePaired, cell_spots, info_count, pair_breaks};
+ghost use Rattle.cjc_classes.specs.CheckRules.Complete.{AreSmall, described_size, descriptor_size};
+ghost use Rattle.cjc_classes.specs.CheckRules.Spots.{beside, in_info, unless};
 ghost use Rattle.cjc_pairing.specs.Working.Heads.{IsHead, all_spots, count_spots_at};
 
 use crate::breaks::{in_descriptor, in_statics, or_else};

@@ -7,18 +7,18 @@ use Rattle.std.specs.List.{flat_map, list_any}
 use Rattle.std.proofs.lemmas.List.Concat.{flat_map-cons}
 use Rattle.std.proofs.lemmas.List.Folds.{list_any-append}
 use Rattle.indexmap.specs.IndexSet.{insert_all}
-use Rattle.cjc_narrow.specs.Bytes.declared.fault.MemberId.{MemberId}
-use Rattle.cjc_narrow.specs.Bytes.declared.fault.Fault.{Fault}
-use Rattle.cjc_narrow.specs.Bytes.Breaks.{RulePlace, at}
-use Rattle.cjc_narrow.specs.World.Files.{Files}
-use Rattle.cjc_components.specs.Tokens.Tokens.{Assigned, joined}
+use Rattle.cjc_components.specs.Bytes.declared.fault.MemberId.{MemberId}
+use Rattle.cjc_components.specs.Bytes.declared.fault.Fault.{Fault}
+use Rattle.cjc_components.specs.Bytes.Breaks.{RulePlace, at}
+use Rattle.cjc_components.specs.World.Files.{Files}
+use Rattle.cjc_components.specs.LowerTokens.Tokens.{Assigned, joined}
 use Rattle.cjc_components.proofs.TokensFacts.{position-cons}
-use Rattle.cjc_narrow.specs.NCode.declared.narrow.NInsn.{NInsn}
-use Rattle.cjc_narrow.specs.NCode.declared.narrow.NInsn.TheVariants as insns
-use Rattle.cjc_narrow.specs.NCode.declared.narrow.NMethod.{NMethod}
-use Rattle.cjc_narrow.specs.NCode.declared.narrow.PoolKey.{PoolKey}
-use Rattle.cjc_narrow.specs.NCode.declared.narrow.PoolKey.TheVariants as keys
-use Rattle.cjc_narrow.specs.NCode.PoolOrder.{same_key, same_member}
+use Rattle.cjc_narrow.specs.LowerNCode.declared.narrow.NInsn.{NInsn}
+use Rattle.cjc_narrow.specs.LowerNCode.declared.narrow.NInsn.TheVariants as insns
+use Rattle.cjc_narrow.specs.LowerNCode.declared.narrow.NMethod.{NMethod}
+use Rattle.cjc_narrow.specs.LowerNCode.declared.narrow.PoolKey.{PoolKey}
+use Rattle.cjc_narrow.specs.LowerNCode.declared.narrow.PoolKey.TheVariants as keys
+use Rattle.cjc_narrow.specs.LowerNCode.PoolOrder.{same_key, same_member}
 use Rattle.cjc_narrow.specs.Keys.Working.Same.{same_key-Decides}
 use Rattle.cjc_narrow.proofs.KeysLaws.Indices.{any_once}
 use Rattle.cjc_narrow.proofs.KeysLaws.Walks.{all_once}

@@ -1,10 +1,10 @@
 -- What a package's pool has for its methods.
 use Rattle.std.specs.Prelude.{◌≡◌, ℕ, List, slice_get, Some, true, IsSome}
-use Rattle.cjc_narrow.specs.Bytes.declared.fault.MemberId.{MemberId}
-use Rattle.cjc_narrow.specs.NCode.declared.narrow.NMethod.{NMethod}
-use Rattle.cjc_narrow.specs.NCode.declared.narrow.NInsn.{NInsn}
-use Rattle.cjc_components.specs.Tokens.Tokens.{Assigned}
-use Rattle.cjc_narrow.specs.World.Files.{Files}
+use Rattle.cjc_components.specs.Bytes.declared.fault.MemberId.{MemberId}
+use Rattle.cjc_narrow.specs.LowerNCode.declared.narrow.NMethod.{NMethod}
+use Rattle.cjc_narrow.specs.LowerNCode.declared.narrow.NInsn.{NInsn}
+use Rattle.cjc_components.specs.LowerTokens.Tokens.{Assigned}
+use Rattle.cjc_components.specs.World.Files.{Files}
 use Rattle.cjc_pool.specs.Pool.{is_called, token_of}
 
 -- an instruction of one of these methods

@@ -2,18 +2,18 @@
 use Rattle.std.specs.Prelude.{◌≡◌, ℕ, List, length, nat_lt, slice_get, Option, None, option_and_then, Bool, false}
 use Rattle.std.specs.Prelude.{if◌then◌else◌}
 use Rattle.std.specs.List.{list_any}
-use Rattle.cjc_narrow.specs.Bytes.declared.fault.MemberId.{MemberId}
-use Rattle.cjc_narrow.specs.Bytes.Breaks.{Break, at, list_spot}
-use Rattle.cjc_narrow.specs.World.Files.{Files}
-use Rattle.cjc_narrow.specs.World.Classes.{all_classes}
-use Rattle.cjc_narrow.specs.World.Lookup.{find_method}
-use Rattle.cjc_components.specs.Tokens.Tokens.{Assigned, joined, token_of_member}
-use Rattle.cjc_narrow.specs.NCode.declared.narrow.NInsn.{NInsn}
-use Rattle.cjc_narrow.specs.NCode.declared.narrow.NInsn.TheVariants as insns
-use Rattle.cjc_narrow.specs.NCode.declared.narrow.NMethod.{NMethod}
-use Rattle.cjc_narrow.specs.NCode.declared.narrow.PoolKey.{PoolKey}
-use Rattle.cjc_narrow.specs.NCode.declared.narrow.PoolKey.TheVariants as keys
-use Rattle.cjc_narrow.specs.NCode.PoolOrder.{pool_order, same_member}
+use Rattle.cjc_components.specs.Bytes.declared.fault.MemberId.{MemberId}
+use Rattle.cjc_components.specs.Bytes.Breaks.{Break, at, list_spot}
+use Rattle.cjc_components.specs.World.Files.{Files}
+use Rattle.cjc_components.specs.World.Classes.{all_classes}
+use Rattle.cjc_components.specs.World.Lookup.{find_method}
+use Rattle.cjc_components.specs.LowerTokens.Tokens.{Assigned, joined, token_of_member}
+use Rattle.cjc_narrow.specs.LowerNCode.declared.narrow.NInsn.{NInsn}
+use Rattle.cjc_narrow.specs.LowerNCode.declared.narrow.NInsn.TheVariants as insns
+use Rattle.cjc_narrow.specs.LowerNCode.declared.narrow.NMethod.{NMethod}
+use Rattle.cjc_narrow.specs.LowerNCode.declared.narrow.PoolKey.{PoolKey}
+use Rattle.cjc_narrow.specs.LowerNCode.declared.narrow.PoolKey.TheVariants as keys
+use Rattle.cjc_narrow.specs.LowerNCode.PoolOrder.{pool_order, same_member}
 use Rattle.cjc_narrow.specs.Keys.Index.{index_of}
 
 -- what a pool says

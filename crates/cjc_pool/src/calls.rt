@@ -4,7 +4,7 @@
 ghost use Rattle.std.specs.Prelude.{◌≡◌, [], map, IfOk, OnOk};
 ghost use Rattle.std.specs.List.{flat_map};
 ghost use Rattle.indexmap.specs.IndexSet.{insert_all};
-ghost use Rattle.cjc_narrow.specs.NCode.PoolOrder.{same_key};
+ghost use Rattle.cjc_narrow.specs.LowerNCode.PoolOrder.{same_key};
 ghost use Rattle.cjc_pool.specs.Working.Calls.{insn_calls, key_token, method_calls};
 
 use cjc_components::tokens::Tokens;

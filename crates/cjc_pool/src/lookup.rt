@@ -1,8 +1,8 @@
 //! `Pool` as emitting asks it: the index of what an instruction or a handler names, by the keys of the pool.
 
 ghost use Rattle.std.specs.Prelude.{◌≡◌, position};
-ghost use Rattle.cjc_narrow.specs.NCode.PoolOrder.{same_key};
-ghost use Rattle.cjc_narrow.specs.NCode.declared.narrow.PoolKey.TheVariants as keys;
+ghost use Rattle.cjc_narrow.specs.LowerNCode.PoolOrder.{same_key};
+ghost use Rattle.cjc_narrow.specs.LowerNCode.declared.narrow.PoolKey.TheVariants as keys;
 ghost use Rattle.cjc_pool.specs.Pool.{token_in};
 
 use crate::pool::Pool;

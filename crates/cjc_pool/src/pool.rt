@@ -1,7 +1,7 @@
 //! The constant pool that a package's narrow code needs, made once and then looked up.
 
 ghost use Rattle.std.specs.Prelude.{◌≡◌, ◌≤◌, [], nat_lt, IfOk, IfErr, OnOk};
-ghost use Rattle.cjc_narrow.specs.Bytes.Breaks.{IsFirstRefusal, at, list_spot};
+ghost use Rattle.cjc_components.specs.Bytes.Breaks.{IsFirstRefusal, at, list_spot};
 ghost use Rattle.cjc_pool.specs.Pool.{IsPool, most_entries, pool_breaks};
 
 use crate::calls::{called, tokens_of};

@@ -3,16 +3,16 @@
 //! here runs.
 ghost use Rattle.std.specs.Prelude.{◌≡◌, ℕ, List, Some, true, map, position};
 ghost use Rattle.std.specs.List.{flat_map, list_any};
-ghost use Rattle.cjc_narrow.specs.CapRead.declared.tree.PoolEntry.{PoolEntry as Entry};
-ghost use Rattle.cjc_narrow.specs.World.Files.{Files};
-ghost use Rattle.cjc_components.specs.Tokens.Tokens.{Assigned};
-ghost use Rattle.cjc_narrow.specs.CardSemantics.Machine.Loaded.{Loaded};
-ghost use Rattle.cjc_narrow.specs.NCode.declared.narrow.NInsn.{NInsn as Insn};
-ghost use Rattle.cjc_narrow.specs.NCode.declared.narrow.NMethod.{NMethod as Method};
-ghost use Rattle.cjc_narrow.specs.NCode.declared.narrow.PoolKey.{PoolKey as Key};
-ghost use Rattle.cjc_narrow.specs.NCode.PoolOrder.{method_keys, same_key};
-ghost use Rattle.cjc_narrow.specs.NCode.Lowering.Naming.{Holds, entry_of};
-ghost use Rattle.cjc_components.specs.Emit.Emitted.{HasNames};
+ghost use Rattle.cjc_narrow.specs.LowerCapRead.declared.tree.PoolEntry.{PoolEntry as Entry};
+ghost use Rattle.cjc_components.specs.World.Files.{Files};
+ghost use Rattle.cjc_components.specs.LowerTokens.Tokens.{Assigned};
+ghost use Rattle.cjc_narrow.specs.LowerCardSemantics.Machine.Loaded.{Loaded};
+ghost use Rattle.cjc_narrow.specs.LowerNCode.declared.narrow.NInsn.{NInsn as Insn};
+ghost use Rattle.cjc_narrow.specs.LowerNCode.declared.narrow.NMethod.{NMethod as Method};
+ghost use Rattle.cjc_narrow.specs.LowerNCode.declared.narrow.PoolKey.{PoolKey as Key};
+ghost use Rattle.cjc_narrow.specs.LowerNCode.PoolOrder.{method_keys, same_key};
+ghost use Rattle.cjc_narrow.specs.LowerNCode.Lowering.Naming.{Holds, entry_of};
+ghost use Rattle.cjc_components.specs.LowerEmit.Emitted.{HasNames};
 ghost use Rattle.cjc_pool.specs.Pool.{IsPool, PoolView, token_in};
 ghost use Rattle.cjc_components.specs.Package.{Package, codes, tokens};
 ghost use Rattle.cjc_components.specs.Names.{names, naming_over, pool_entries};

@@ -4,8 +4,8 @@ use Rattle.cjc_shelf.specs.Command.Answer.{IsReady}
 use Rattle.cjc_shelf.specs.Command.Plan.{EndsBy, complete}
 use Rattle.cjc_shelf.specs.Command.Publish.{IsPrinted, IsWritten}
 use Rattle.cjc_shelf.specs.declared.command.status.Todo.{Todo}
-use Rattle.cjc_cmd_make.specs.CmdCard.Report.Runs.{IsRun, plan_of_report}
-use Rattle.cjc_cmd_make.specs.CmdCard.declared.running.input.Input.{Input}
+use Rattle.cjc_cmd_verify.specs.CmdCard.Report.Runs.{IsRun, plan_of_report}
+use Rattle.cjc_cmd_verify.specs.CmdCard.declared.running.input.Input.{Input}
 use Rattle.cjc_shelf.specs.Shelf.{Files, Shelved}
 use Rattle.cjc_shelf.specs.Sink.{Sunk}
 use Rattle.cjc_run.specs.Command.{command_of}

@@ -6,6 +6,7 @@ pub mod OneStatus
 pub mod Tested
 pub mod Ran
 pub mod CardRan
+pub mod LinkRan
 pub mod Summed
 pub mod Typed
 pub mod Versions

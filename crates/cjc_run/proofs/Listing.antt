@@ -1,10 +1,10 @@
 -- How the reads of a conversion go on from its list.
 use Rattle.std.proofs.Common.{◌≡◌, ℕ, List, Result, Ok, Err, sym, subst}
-use Rattle.cjc_cmd_compat.specs.Bytes.Refused.{IsUnlessNoMemory}
-use Rattle.cjc_cmd_compat.specs.Bytes.declared.fault.Fault.TheVariants as faults
-use Rattle.cjc_cmd_compat.specs.Bytes.declared.fault.Refusal.{Refusal}
+use Rattle.cjc_shelf.specs.Bytes.Refused.{IsUnlessNoMemory}
+use Rattle.cjc_shelf.specs.Bytes.declared.fault.Fault.TheVariants as faults
+use Rattle.cjc_shelf.specs.Bytes.declared.fault.Refusal.{Refusal}
 use Rattle.cjc_shelf.specs.Shelf.{Shelved}
-use Rattle.cjc_cmd_verify.specs.List.Listed.{ListTree, listed, answer}
+use Rattle.cjc_cmd_compat.specs.List.Listed.{ListTree, listed, answer}
 use Rattle.cjc_shelf.specs.declared.command.status.Status.{Status}
 use Rattle.cjc_shelf.specs.declared.command.status.Status.TheVariants as status
 use Rattle.cjc_shelf.specs.declared.command.status.Todo.{Todo}

@@ -1,23 +1,30 @@
 -- What a command makes of its inputs is one answer.
 use Rattle.std.proofs.Common.{◌≡◌, ℕ, List, Ok, Err}
 use Rattle.cjc_shelf.specs.declared.command.status.Todo.{Todo}
-use Rattle.cjc_cmd_verify.specs.List.Listed.{ListTree}
+use Rattle.cjc_cmd_compat.specs.List.Listed.{ListTree}
 use Rattle.cjc_shelf.proofs.CommandLaws.OneAnswer.{IsOneAnswer}
-use Rattle.cjc_cmd_compat.specs.Bytes.declared.fault.Refusal.{Refusal}
-use Rattle.cjc_cmd_make.specs.CmdCard.Report.Runs as card_runs
-use Rattle.cjc_cmd_make.specs.CmdCard.declared.running.input.Input.{Input as ComponentsInput}
-use Rattle.cjc_cmd_make.specs.LowerCmdConvert.Conversion.Conversion.{Conversion, IsConverted, IsRefused}
+use Rattle.cjc_shelf.specs.Bytes.declared.fault.Refusal.{Refusal}
+use Rattle.cjc_cmd_verify.specs.CmdCard.Report.Runs as card_runs
+use Rattle.cjc_cmd_verify.specs.CmdCard.declared.running.input.Input.{Input as ComponentsInput}
+use Rattle.cjc_cmd_make.specs.CmdConvert.Conversion.Conversion.{Conversion, IsConverted, IsRefused}
 use Rattle.cjc_cmd_compat.proofs.CmdCheckOneAnswer.{one_refusal as one_broken, never_both}
-use Rattle.cjc_cmd_verify.specs.CmdCheck.Check.{Checks}
-use Rattle.cjc_cmd_verify.specs.CmdCheck.declared.folder.folder.Folder.{Folder}
+use Rattle.cjc_cmd_compat.specs.CmdCheck.Check.{Checks}
+use Rattle.cjc_cmd_compat.specs.CmdCheck.declared.folder.folder.Folder.{Folder}
 use Rattle.cjc_cmd_compat.proofs.OneAnswer.{one_refusal as one_version, never_both as never_kept_and_refused}
 use Rattle.cjc_cmd_compat.specs.Compat.{Compares}
 use Rattle.cjc_cmd_verify.proofs.CmdJvmOneAnswer.{one_refusal_of_runs, never_both as never_run_and_refused}
-use Rattle.cjc_cmd_make.specs.CmdJvm.Runs.{Runs}
+use Rattle.cjc_cmd_verify.specs.CmdJvm.Runs.{Runs}
 use Rattle.cjc_cmd_make.specs.Report.Runs as summed
-use Rattle.cjc_cmd_make.specs.CmdJvm.declared.running.input.Input.{Input}
+use Rattle.cjc_cmd_verify.specs.CmdJvm.declared.running.input.Input.{Input}
 use Rattle.cjc_cmd_verify.specs.Verify.{Verifies}
-use Rattle.cjc_run.specs.Request.{Request, card, check, compat, convert, jvm, make, verify}
+use Rattle.cjc_cmd_link.proofs.OneAnswer.{one_refusal as one_group, never_both as never_linked_and_refused}
+use Rattle.cjc_cmd_link.specs.Runs as link_runs
+use Rattle.cjc_cmd_link.specs.Runs.{report_by_name, report_by_token}
+use Rattle.cjc_cmd_link.specs.declared.reads.GroupInput.{GroupInput}
+use Rattle.cjc_cmd_link.specs.LinkSemantics.Loaded.{Member}
+use Rattle.cjc_cmd_verify.specs.Script.declared.report.Report.{Report}
+use Rattle.cjc_cmd_verify.specs.ScriptText.Scripted.{ScriptTree}
+use Rattle.cjc_run.specs.Request.{Request, card, check, compat, convert, jvm, link, linkjvm, make, verify}
 use Rattle.cjc_run.specs.Command.{command_of}
 use Rattle.cjc_run.specs.Convert.{Makes}
 
@@ -93,6 +100,13 @@ verify_once one never input = record {
   not_both = λ todo r made f. never input todo r made f;
 }
 
+link_once : (report : List Member → ScriptTree → Report) (name script : List ℕ) (input : GroupInput)
+    → IsOneAnswer (link_runs.Runs report name script input)
+link_once report name script input = record {
+  one = λ r s f g. one_group report name script input r s f g;
+  not_both = λ todo r made f. never_linked_and_refused report name script input todo r made f;
+}
+
 compat_once : (old new : List ℕ) (files : List ℕ × List ℕ) → IsOneAnswer (Compares old new files)
 compat_once old new files = record {
   one = λ r s f g. one_version old new files r s f g;
@@ -110,4 +124,8 @@ makes_once one never runs either sums alone types or (card list dir script n) in
     inputs
 makes_once one never runs either sums alone types or (make number size) inputs = make_once sums alone inputs
 makes_once one never runs either sums alone types or (verify list dir) inputs = verify_once types or inputs
+makes_once one never runs either sums alone types or (link group script n) inputs =
+    link_once (λ members tree. report_by_token members tree n) group script inputs
+makes_once one never runs either sums alone types or (linkjvm group script n) inputs =
+    link_once (λ members tree. report_by_name members tree n) group script inputs
 makes_once one never runs either sums alone types or (compat old new) inputs = compat_once old new inputs

@@ -3,17 +3,17 @@ use Rattle.std.proofs.Common.{◌≡◌, ℕ, Bool, true, false, List, [], ◌�
 use Rattle.std.proofs.Common.{None, IfSome, IsSomeAnd, Result, Ok, Err, refl, sym, ap, subst, ◌∙◌}
 use Rattle.std.proofs.lemmas.List.{append-nil, append_assoc}
 use Rattle.std.specs.FinMap.{get}
-use Rattle.cjc_cmd_compat.specs.Bytes.Format.{FileSpells}
-use Rattle.cjc_cmd_compat.specs.Bytes.declared.fault.Refusal.{Refusal}
-use Rattle.cjc_cmd_compat.specs.Bytes.declared.settings.FileLine.{FileLine}
+use Rattle.cjc_shelf.specs.Bytes.Format.{FileSpells}
+use Rattle.cjc_shelf.specs.Bytes.declared.fault.Refusal.{Refusal}
+use Rattle.cjc_shelf.specs.Bytes.declared.settings.FileLine.{FileLine}
 use Rattle.cjc_shelf.specs.Shelf.{Files, Shelved}
 use Rattle.cjc_shelf.specs.Sink.{Sunk}
-use Rattle.cjc_cmd_verify.specs.List.Listed.{ListTree, listed}
-use Rattle.cjc_cmd_verify.specs.ClassFile.ClassFile.{class_file}
-use Rattle.cjc_cmd_verify.specs.ClassFile.declared.tree.ClassTree.{ClassTree}
-use Rattle.cjc_cmd_make.specs.Judge.Spelt.{FileTree, SpellTrees, classes_of, exports_of, of_class, of_export}
-use Rattle.cjc_cmd_make.specs.ExportFile.ExportFile.{export_file}
-use Rattle.cjc_cmd_verify.specs.ExportFile.declared.tree.ExportTree.{ExportTree}
+use Rattle.cjc_cmd_compat.specs.List.Listed.{ListTree, listed}
+use Rattle.cjc_cmd_compat.specs.ClassFile.ClassFile.{class_file}
+use Rattle.cjc_cmd_compat.specs.ClassFile.declared.tree.ClassTree.{ClassTree}
+use Rattle.cjc_cmd_verify.specs.Judge.Spelt.{FileTree, SpellTrees, classes_of, exports_of, of_class, of_export}
+use Rattle.cjc_cmd_compat.specs.ExportFile.ExportFile.{export_file}
+use Rattle.cjc_cmd_compat.specs.ExportFile.declared.tree.ExportTree.{ExportTree}
 use Rattle.cjc_shelf.specs.Command.Plan.{◌>>=◌, has, Verdict, verdict, for_each, read_behind, read_each}
 use Rattle.cjc_shelf.specs.Command.Plan.{unless_refused, absent, too_long, refused, complete}
 use Rattle.cjc_shelf.proofs.CommandLaws.Gathering.{verdict-then, on_complete}
@@ -24,9 +24,11 @@ use Rattle.cjc_shelf.specs.declared.command.status.Status.{Status}
 use Rattle.cjc_shelf.specs.declared.command.status.Status.TheVariants as status
 use Rattle.cjc_shelf.specs.declared.command.status.Todo.{Todo}
 use Rattle.cjc_cmd_compat.proofs.ListDecided.{listed_spelt}
-use Rattle.cjc_run.specs.Request.{Request, card, check, compat, convert, jvm, make, verify}
+use Rattle.cjc_cmd_link.specs.Runs.{report_by_name, report_by_token}
+use Rattle.cjc_run.proofs.LinkRan.{keeps_link}
+use Rattle.cjc_run.specs.Request.{Request, card, check, compat, convert, jvm, link, linkjvm, make, verify}
 use Rattle.cjc_run.specs.Command.{command_of}
-use Rattle.cjc_cmd_make.specs.LowerCmdConvert.Publication.{files_made, below}
+use Rattle.cjc_cmd_make.specs.CmdConvert.Publication.{files_made, below}
 use Rattle.cjc_run.specs.Convert.{names_of, plan_of_files, plan_of_list, plan_of_convert}
 use Rattle.cjc_run.specs.Promise.{SpellStep, SpellClasses, ExportStep, SpellExports, Converts, Promised}
 use Rattle.cjc_run.proofs.Standing.{stand_made}
@@ -193,6 +195,10 @@ promised_done (jvm name script n) old new from to t = keeps_run name script n ol
 promised_done (card name dir script n) old new from to t = keeps_card name dir script n old new from to t.0 t.1 t.2 t.3
 promised_done (make number size) old new from to t = keeps_made number size old new from to t.0 t.1 t.2 t.3
 promised_done (verify name dir) old new from to t = keeps_typed name dir old new from to t.0 t.1 t.2 t.3
+promised_done (link name script n) old new from to t =
+    keeps_link (λ group tree. report_by_token group tree n) name script old new from to t.0 t.1 t.2 t.3
+promised_done (linkjvm name script n) old new from to t =
+    keeps_link (λ group tree. report_by_name group tree n) name script old new from to t.0 t.1 t.2 t.3
 promised_done (compat old_name new_name) old new from to t =
     keeps_compared old_name new_name old new from to t.0 t.1 t.2 t.3
 

@@ -5,10 +5,10 @@ use Rattle.cjc_shelf.specs.Command.Answer.{IsReady}
 use Rattle.cjc_shelf.specs.Command.Plan.{EndsBy, complete}
 use Rattle.cjc_shelf.specs.Command.Publish.{IsPrinted, IsWritten, text_of, written_files}
 use Rattle.cjc_shelf.specs.declared.command.status.Todo.{Todo}
-use Rattle.cjc_cmd_make.specs.CmdJvm.Runs.{IsRun, plan_of_jvm}
-use Rattle.cjc_cmd_make.specs.CmdJvm.declared.running.input.Input.{Input}
-use Rattle.cjc_cmd_make.specs.Script.declared.report.Report.{Report}
-use Rattle.cjc_cmd_make.specs.ScriptText.Printed.{report_text}
+use Rattle.cjc_cmd_verify.specs.CmdJvm.Runs.{IsRun, plan_of_jvm}
+use Rattle.cjc_cmd_verify.specs.CmdJvm.declared.running.input.Input.{Input}
+use Rattle.cjc_cmd_verify.specs.Script.declared.report.Report.{Report}
+use Rattle.cjc_cmd_verify.specs.ScriptText.Printed.{report_text}
 use Rattle.cjc_shelf.specs.Shelf.{Files, Shelved}
 use Rattle.cjc_shelf.specs.Sink.{Sunk}
 use Rattle.cjc_run.specs.Command.{command_of}

@@ -8,8 +8,8 @@ use Rattle.cjc_shelf.specs.Shelf.{Files}
 use Rattle.cjc_shelf.specs.declared.command.status.File.{File}
 use Rattle.cjc_shelf.specs.Command.Publish.{written_files, IsNew, AreDistinct, Stand}
 use Rattle.cjc_shelf.proofs.CommandLaws.Published.{written_stand}
-use Rattle.cjc_cmd_make.specs.CapWrite.declared.files.CapFiles.{CapFiles}
-use Rattle.cjc_cmd_make.specs.LowerCmdConvert.Publication.{below, last_part, files_made}
+use Rattle.cjc_cmd_verify.specs.CapWrite.declared.files.CapFiles.{CapFiles}
+use Rattle.cjc_cmd_make.specs.CmdConvert.Publication.{below, last_part, files_made}
 use Rattle.cjc_shelf.proofs.BytesNumbers.{same_number}
 use Rattle.cjc_shelf.proofs.BytesLists.{bytes_true}
 

@@ -1,11 +1,11 @@
 -- A test that is done keeps its promise.
 use Rattle.std.proofs.Common.{◌≡◌, ℕ, List, [], ◌∷◌, ◌++◌, Option, Some, None, IfSome, ap, ◌∙◌}
-use Rattle.cjc_cmd_verify.specs.CmdCheck.Check.{Checks, ok_line, plan_of_check}
+use Rattle.cjc_cmd_compat.specs.CmdCheck.Check.{Checks, ok_line, plan_of_check}
 use Rattle.cjc_shelf.specs.Command.Answer.{IsReady}
 use Rattle.cjc_shelf.specs.Command.Plan.{EndsBy, complete}
 use Rattle.cjc_shelf.specs.Command.Publish.{IsPrinted, IsWritten, text_of, written_files}
 use Rattle.cjc_shelf.specs.declared.command.status.Todo.{Todo}
-use Rattle.cjc_cmd_verify.specs.CmdCheck.declared.folder.folder.Folder.{Folder}
+use Rattle.cjc_cmd_compat.specs.CmdCheck.declared.folder.folder.Folder.{Folder}
 use Rattle.cjc_shelf.specs.Shelf.{Files, Shelved}
 use Rattle.cjc_shelf.specs.Sink.{Sunk}
 use Rattle.std.specs.Prelude.{Ok}

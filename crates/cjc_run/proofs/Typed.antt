@@ -1,7 +1,7 @@
 -- A test of types that is done keeps its promise.
 use Rattle.std.proofs.Common.{ℕ, List, Option, Some, None, IfSome}
 use Rattle.std.specs.Prelude.{Ok}
-use Rattle.cjc_cmd_make.specs.CmdCard.declared.running.input.Input.{Input}
+use Rattle.cjc_cmd_verify.specs.CmdCard.declared.running.input.Input.{Input}
 use Rattle.cjc_cmd_verify.specs.Verify.{Verifies, plan_of_verify}
 use Rattle.cjc_run.proofs.Tested.{kept_by, printed_by}
 use Rattle.cjc_run.specs.Command.{command_of}

@@ -1,12 +1,12 @@
 -- What `convert LIST DIR` reads, and what it writes and prints.
 use Rattle.std.specs.Prelude.{◌≡◌, ℕ, List, map, Result, Ok, Err}
-use Rattle.cjc_cmd_compat.specs.Bytes.declared.fault.Refusal.{Refusal}
-use Rattle.cjc_cmd_verify.specs.List.Listed.{ListTree, listed}
-use Rattle.cjc_cmd_make.specs.LowerCmdConvert.Conversion.Conversion.{Conversion, IsConverted, IsRefused}
-use Rattle.cjc_cmd_make.specs.LowerCmdConvert.Conversion.Promise.{KeepsPromise}
+use Rattle.cjc_shelf.specs.Bytes.declared.fault.Refusal.{Refusal}
+use Rattle.cjc_cmd_compat.specs.List.Listed.{ListTree, listed}
+use Rattle.cjc_cmd_make.specs.CmdConvert.Conversion.Conversion.{Conversion, IsConverted, IsRefused}
+use Rattle.cjc_cmd_make.specs.CmdConvert.Conversion.Promise.{KeepsPromise}
 use Rattle.cjc_shelf.specs.Command.Plan.{Plan, has, ◌>>=◌, read, read_each, unless_refused}
 use Rattle.cjc_shelf.specs.declared.command.status.Todo.{Todo}
-use Rattle.cjc_cmd_make.specs.LowerCmdConvert.Publication.{files_made, publication}
+use Rattle.cjc_cmd_make.specs.CmdConvert.Publication.{files_made, publication}
 
 -- ---- what is read
 

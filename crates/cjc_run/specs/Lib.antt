@@ -17,8 +17,9 @@ pub mod Request
 pub mod Promise
 -- What else is said: what each command reads and makes, and the lines that tell how a run ended: the rules (cjc_judge);
 -- conversion (cjc_cmd_convert), checking (cjc_cmd_check), running by name (cjc_cmd_jvm) and by token (cjc_cmd_card),
--- making (cjc_cmd_make), verifying (cjc_cmd_verify); versions (cjc_compat), comparing them (cjc_cmd_compat); the text
--- of scripts (cjc_script_text).
+-- making (cjc_cmd_make), verifying (cjc_cmd_verify); versions (cjc_compat), comparing them (cjc_cmd_compat); packages
+-- together: what they agree on (cjc_group), their components as one group (cjc_link_semantics), their runs
+-- (cjc_cmd_link); the text of scripts (cjc_script_text).
 pub mod Asked
 pub mod Command
 pub mod Convert

@@ -1,41 +1,46 @@
 -- What a command that is done promises of the files before and after it.
 use Rattle.std.specs.Prelude.{◌≡◌, Bool, true, false, ℕ, List, [], ◌∷◌, ◌++◌, map, Option, Some, IfSome, IsSomeAnd}
 use Rattle.std.specs.FinMap.{get}
-use Rattle.cjc_cmd_compat.specs.Bytes.Format.{FileSpells}
-use Rattle.cjc_cmd_compat.specs.Bytes.declared.settings.FileLine.{FileLine}
+use Rattle.cjc_shelf.specs.Bytes.Format.{FileSpells}
+use Rattle.cjc_shelf.specs.Bytes.declared.settings.FileLine.{FileLine}
 use Rattle.cjc_shelf.specs.Shelf.{Files, Shelved}
 use Rattle.cjc_shelf.specs.Sink.{Sunk}
 use Rattle.cjc_shelf.specs.Command.Publish.{IsPrinted, Stand}
-use Rattle.cjc_cmd_verify.specs.List.Listed.{ListTree}
-use Rattle.cjc_list.specs.Spelling.{IsSpelt as IsListSpelt}
-use Rattle.cjc_cmd_verify.specs.ClassFile.ClassFile.{class_file}
-use Rattle.cjc_cmd_verify.specs.ClassFile.declared.tree.ClassTree.{ClassTree}
-use Rattle.cjc_cmd_verify.specs.ExportFile.declared.tree.ExportTree.{ExportTree}
-use Rattle.cjc_cmd_make.specs.ExportFile.ExportFile.{export_file}
-use Rattle.cjc_cmd_verify.specs.CapRead.declared.tree.CapTree.{CapTree}
-use Rattle.cjc_cmd_make.specs.CapWrite.Writable.{IsSpelt}
-use Rattle.cjc_cmd_make.specs.LowerCmdConvert.Conversion.Conversion.{BehaveAlike, Conversion, ExportsAreFair}
-use Rattle.cjc_cmd_make.specs.Judge.Rules.{world_files}
-use Rattle.cjc_cmd_verify.specs.CheckRules.Consistent.{Consistent}
-use Rattle.cjc_cmd_make.specs.LowerCmdConvert.Publication.{files_made, below}
-use Rattle.cjc_cmd_verify.specs.CmdCheck.Check.{AreConsistent, check_breaks, ok_line, plan_of_check}
+use Rattle.cjc_cmd_compat.specs.List.Listed.{ListTree}
+use Rattle.cjc_cmd_compat.specs.List.Spelling.{IsSpelt as IsListSpelt}
+use Rattle.cjc_cmd_compat.specs.ClassFile.ClassFile.{class_file}
+use Rattle.cjc_cmd_compat.specs.ClassFile.declared.tree.ClassTree.{ClassTree}
+use Rattle.cjc_cmd_compat.specs.ExportFile.declared.tree.ExportTree.{ExportTree}
+use Rattle.cjc_cmd_compat.specs.ExportFile.ExportFile.{export_file}
+use Rattle.cjc_cmd_compat.specs.CapRead.declared.tree.CapTree.{CapTree}
+use Rattle.cjc_cmd_verify.specs.CapWrite.Writable.{IsSpelt}
+use Rattle.cjc_cmd_make.specs.CmdConvert.Conversion.Conversion.{BehaveAlike, Conversion, ExportsAreFair}
+use Rattle.cjc_cmd_verify.specs.Judge.Rules.{world_files}
+use Rattle.cjc_cmd_compat.specs.CheckRules.Consistent.{Consistent}
+use Rattle.cjc_cmd_make.specs.CmdConvert.Publication.{files_made, below}
+use Rattle.cjc_cmd_compat.specs.CmdCheck.Check.{AreConsistent, check_breaks, ok_line, plan_of_check}
 use Rattle.cjc_shelf.specs.Command.Plan.{complete, verdict}
 use Rattle.cjc_shelf.specs.declared.command.status.Todo.{Todo}
-use Rattle.cjc_cmd_verify.specs.CmdCheck.declared.folder.folder.Folder.{Folder}
+use Rattle.cjc_cmd_compat.specs.CmdCheck.declared.folder.folder.Folder.{Folder}
 use Rattle.cjc_cmd_compat.specs.Compat.{AreCompatible}
-use Rattle.cjc_cmd_make.specs.CmdCard.Report.Runs as by_token
-use Rattle.cjc_cmd_make.specs.CmdCard.Running.Ready as components
-use Rattle.cjc_cmd_make.specs.CmdCard.declared.running.input.Input.{Input as ComponentsInput}
-use Rattle.cjc_cmd_make.specs.CmdCard.declared.running.ready.Ready.{Ready as ComponentsReady}
-use Rattle.cjc_cmd_make.specs.CmdJvm.Running.Ready.{IsReady}
-use Rattle.cjc_cmd_make.specs.CmdJvm.declared.running.input.Input.{Input}
-use Rattle.cjc_cmd_make.specs.CmdJvm.declared.running.ready.Ready.{Ready}
-use Rattle.cjc_cmd_make.specs.Script.declared.report.Report.{Report}
-use Rattle.cjc_cmd_make.specs.ScriptText.Printed.{report_text}
-use Rattle.cjc_cmd_make.specs.CmdJvm.Runs.{IsReport, plan_of_jvm}
+use Rattle.cjc_cmd_verify.specs.CmdCard.Report.Runs as by_token
+use Rattle.cjc_cmd_verify.specs.CmdCard.Running.Ready as components
+use Rattle.cjc_cmd_verify.specs.CmdCard.declared.running.input.Input.{Input as ComponentsInput}
+use Rattle.cjc_cmd_verify.specs.CmdCard.declared.running.ready.Ready.{Ready as ComponentsReady}
+use Rattle.cjc_cmd_verify.specs.CmdJvm.Running.Ready.{IsReady}
+use Rattle.cjc_cmd_verify.specs.CmdJvm.declared.running.input.Input.{Input}
+use Rattle.cjc_cmd_verify.specs.CmdJvm.declared.running.ready.Ready.{Ready}
+use Rattle.cjc_cmd_verify.specs.Script.declared.report.Report.{Report}
+use Rattle.cjc_cmd_verify.specs.ScriptText.Printed.{report_text}
+use Rattle.cjc_cmd_verify.specs.CmdJvm.Runs.{IsReport, plan_of_jvm}
 use Rattle.cjc_cmd_make.specs.Report.Runs.{IsMade}
 use Rattle.cjc_cmd_verify.specs.Verify.{AreTyped, plan_of_verify}
-use Rattle.cjc_run.specs.Request.{Request, card, check, compat, convert, jvm, make, verify}
+use Rattle.cjc_cmd_link.specs.Runs as linked
+use Rattle.cjc_cmd_link.specs.Runs.{plan_of_link, report_by_name, report_by_token}
+use Rattle.cjc_cmd_link.specs.declared.reads.GroupInput.{GroupInput}
+use Rattle.cjc_cmd_link.specs.LinkSemantics.Loaded.{Member}
+use Rattle.cjc_cmd_verify.specs.ScriptText.Scripted.{ScriptTree}
+use Rattle.cjc_run.specs.Request.{Request, card, check, compat, convert, jvm, link, linkjvm, make, verify}
 
 -- by one line: a class file is there and spells the first of these classes, and the other lines the rest; an export
 -- file spells none of them
@@ -155,6 +160,23 @@ pub record Verified (name dir : List ℕ) (old new : Shelved) (from to : Sunk) :
   pub typed : IfSome old.files (IsTyped name dir)
   pub printed : IfSome from.written (λ before. to.written ≡ Some (before ++ ok_line))
 
+-- The text of this name, the packages that it names and the script were read, and nothing of them is refused: each
+-- package alone is as `card` asks, and they agree. The joint report of these packages and this script is printed.
+pub record IsLinkReported (report : List Member → ScriptTree → Report) (name script : List ℕ) (files : Files)
+    (from to : Sunk) : Type 0 where
+  pub input : GroupInput
+  pub read : verdict files (plan_of_link name script) ≡ complete input
+  pub group : List Member
+  pub tree : ScriptTree
+  pub ready : linked.IsReady input name script group tree
+  pub printed : IfSome from.written (λ before. to.written ≡ Some (before ++ report_text (report group tree)))
+
+-- Nothing is written, and that report is printed.
+pub record LinkReported (report : List Member → ScriptTree → Report) (name script : List ℕ) (old new : Shelved)
+    (from to : Sunk) : Type 0 where
+  pub kept : IfSome old.files (λ files. new.files ≡ Some files)
+  pub reported : IfSome old.files (λ files. IsLinkReported report name script files from to)
+
 -- The files of these names were read, spell two versions of an export file, and the new one keeps what the old one
 -- says.
 pub record IsCompared (old new : List ℕ) (files : Files) : Type 0 where
@@ -179,4 +201,8 @@ Promised (jvm name script n) old new from to = Reported name script n old new fr
 Promised (card name dir script n) old new from to = CardReported name dir script n old new from to
 Promised (make number size) old new from to = MadeReported number size old new from to
 Promised (verify name dir) old new from to = Verified name dir old new from to
+Promised (link name script n) old new from to =
+    LinkReported (λ group tree. report_by_token group tree n) name script old new from to
+Promised (linkjvm name script n) old new from to =
+    LinkReported (λ group tree. report_by_name group tree n) name script old new from to
 Promised (compat old_name new_name) old new from to = Compared old_name new_name old new from to

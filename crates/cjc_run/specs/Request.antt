@@ -1,7 +1,7 @@
 -- What the words of a command line ask for, or that they are of no form.
 use Rattle.std.specs.Prelude.{ℕ, ◌==◌, List, [], ◌∷◌, codes, bytes_eq, if◌then◌else◌, Option, Some, None}
 use Rattle.std.specs.Prelude.{option_and_then, option_map}
-use Rattle.cjc_cmd_compat.specs.Bytes.Text.{short_decimal}
+use Rattle.cjc_shelf.specs.Bytes.Text.{short_decimal}
 
 -- What is asked for.
 pub data Request : Type 0 where
@@ -17,6 +17,10 @@ pub data Request : Type 0 where
   make : ℕ → ℕ → Request
   -- verify LIST DIR
   verify : List ℕ → List ℕ → Request
+  -- link GROUP SCRIPT N
+  link : List ℕ → List ℕ → ℕ → Request
+  -- linkjvm GROUP SCRIPT N
+  linkjvm : List ℕ → List ℕ → ℕ → Request
   -- compat OLD NEW
   compat : List ℕ → List ℕ → Request
 
@@ -45,7 +49,10 @@ request (verb ∷ list ∷ dir ∷ []) =
     else if bytes_eq verb (codes "verify") then Some (verify list dir)
     else if bytes_eq verb (codes "compat") then Some (compat list dir)
     else None
-request (verb ∷ list ∷ script ∷ n ∷ []) = if bytes_eq verb (codes "jvm") then option_map (jvm list script) (count n)
+request (verb ∷ list ∷ script ∷ n ∷ []) =
+    if bytes_eq verb (codes "jvm") then option_map (jvm list script) (count n)
+    else if bytes_eq verb (codes "link") then option_map (link list script) (count n)
+    else if bytes_eq verb (codes "linkjvm") then option_map (linkjvm list script) (count n)
     else None
 request (verb ∷ list ∷ dir ∷ script ∷ n ∷ []) = if bytes_eq verb (codes "card") then option_map (card list dir script)
     (count n) else None

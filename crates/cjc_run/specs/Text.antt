@@ -1,7 +1,7 @@
 -- The lines that say how a run ended.
 use Rattle.std.specs.Prelude.{ℕ, List, [], ◌∷◌, ◌++◌, codes, decimal}
 use Rattle.std.specs.List.{concat}
-use Rattle.cjc_cmd_compat.specs.Bytes.declared.fault.Refusal.{Refusal}
+use Rattle.cjc_shelf.specs.Bytes.declared.fault.Refusal.{Refusal}
 use Rattle.cjc_shelf.specs.declared.command.status.Status.{Status}
 use Rattle.cjc_shelf.specs.declared.command.status.Status.TheVariants as status
 
@@ -21,7 +21,7 @@ shown_part (c ∷ part) = c ∷ part
 -- the forms of the words
 abbrev pub usage_line : List ℕ
 usage_line = codes
-    "usage: jcconv convert LIST DIR, check LIST DIR, jvm LIST SCRIPT N, card LIST DIR SCRIPT N, make NUMBER SIZE, verify LIST DIR, compat OLD NEW"
+    "usage: jcconv convert LIST DIR, check LIST DIR, jvm LIST SCRIPT N, card LIST DIR SCRIPT N, make NUMBER SIZE, verify LIST DIR, compat OLD NEW, link GROUP SCRIPT N, linkjvm GROUP SCRIPT N"
     ++ line_feed
 
 -- which rule is broken, and where

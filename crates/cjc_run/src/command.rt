@@ -42,6 +42,18 @@ pub(crate) enum Asked<'a> {
         list: &'a [u8],
         dir: &'a [u8],
     },
+    /// `link GROUP SCRIPT N`
+    Link {
+        group: &'a [u8],
+        script: &'a [u8],
+        n: u32,
+    },
+    /// `linkjvm GROUP SCRIPT N`
+    LinkJvm {
+        group: &'a [u8],
+        script: &'a [u8],
+        n: u32,
+    },
     /// `compat OLD NEW`
     Compat {
         old: &'a [u8],
@@ -117,6 +129,26 @@ pub(crate) fn asked_by(words: &[Bytes]) -> Option<Asked<'_>>
             match count(n) {
                 Some(n) => Some(Asked::Jvm {
                     list: list.items(),
+                    script: script.items(),
+                    n,
+                }),
+                None => None,
+            }
+        }
+        [verb, group, script, n] if verb.items() == b"link".as_slice() => {
+            match count(n) {
+                Some(n) => Some(Asked::Link {
+                    group: group.items(),
+                    script: script.items(),
+                    n,
+                }),
+                None => None,
+            }
+        }
+        [verb, group, script, n] if verb.items() == b"linkjvm".as_slice() => {
+            match count(n) {
+                Some(n) => Some(Asked::LinkJvm {
+                    group: group.items(),
                     script: script.items(),
                     n,
                 }),

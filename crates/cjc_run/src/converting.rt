@@ -3,7 +3,7 @@
 
 ghost use Rattle.std.specs.Prelude.{◌≡◌, ◌<◌, IfOk, length};
 ghost use Rattle.cjc_shelf.specs.Command.Gather.{AreShort};
-ghost use Rattle.cjc_cmd_make.specs.Judge.Spelt.{IsRead};
+ghost use Rattle.cjc_cmd_verify.specs.Judge.Spelt.{IsRead};
 ghost use Rattle.cjc_shelf.specs.Command.Gather.{Gathers, Judged};
 ghost use Rattle.cjc_run.specs.Convert.{plan_of_convert, plan_of_list, plan_of_files, names_of, Makes};
 

@@ -1,7 +1,7 @@
 //! What holds of the answers of all runs, whatever the words. `run` says of each answer what decides it.
 
 ghost use Rattle.std.specs.Prelude.{◌≡◌, Some};
-ghost use Rattle.cjc_cmd_compat.specs.Bytes.declared.fault.Refusal.{Refusal};
+ghost use Rattle.cjc_shelf.specs.Bytes.declared.fault.Refusal.{Refusal};
 ghost use Rattle.cjc_shelf.specs.Shelf.{Files};
 ghost use Rattle.cjc_shelf.specs.Command.Answer.{IsEndOver, IsRefused};
 ghost use Rattle.cjc_shelf.specs.declared.command.status.Status.{Status as Answer};

@@ -14,6 +14,7 @@ use crate::command::{Asked, asked_by};
 use crate::converting::gather_convert;
 use cjc_cmd_compat::cmd_check::checking::gather_check;
 use cjc_cmd_compat::gather_compat;
+use cjc_cmd_link::{gather_link, gather_linkjvm};
 use cjc_cmd_make::report::gather_make;
 use cjc_cmd_verify::cmd_card::report::gather_card;
 use cjc_cmd_verify::cmd_jvm::report::gather_run;
@@ -41,6 +42,8 @@ fn gather<S: Shelf>(alloc: Global, command: Asked<'_>, shelf: &mut S) -> Result<
         } => gather_card(alloc, list, dir, script, n, shelf),
         Asked::Make { number, size } => gather_make(alloc, number, size, shelf),
         Asked::Verify { list, dir } => gather_verify(alloc, list, dir, shelf),
+        Asked::Link { group, script, n } => gather_link(alloc, group, script, n, shelf),
+        Asked::LinkJvm { group, script, n } => gather_linkjvm(alloc, group, script, n, shelf),
         Asked::Compat { old, new } => gather_compat(alloc, old, new, shelf),
     }
 }

@@ -1,11 +1,11 @@
 -- What is scripted is what the text spells, or where it breaks the rule.
 use Rattle.std.proofs.Common.{◌≡◌, ℕ, ◌⊎◌, inl, inr, List, [], Result, Ok, Err, refl, sym, ap, ◌∙◌, subst}
 use Rattle.std.specs.Prelude.{IfOk, IfErr}
-use Rattle.cjc_list.specs.LowerBytes.Text.{kept_lines}
-use Rattle.cjc_list.specs.LowerBytes.Refused.{refusal, IsUnlessNoMemory}
-use Rattle.cjc_list.specs.LowerBytes.declared.fault.Fault.{Fault}
-use Rattle.cjc_list.specs.LowerBytes.declared.fault.Fault.TheVariants as faults
-use Rattle.cjc_list.specs.LowerBytes.declared.fault.Refusal.{Refusal}
+use Rattle.cjc_list.specs.Bytes.Text.{kept_lines}
+use Rattle.cjc_list.specs.Bytes.Refused.{refusal, IsUnlessNoMemory}
+use Rattle.cjc_list.specs.Bytes.declared.fault.Fault.{Fault}
+use Rattle.cjc_list.specs.Bytes.declared.fault.Fault.TheVariants as faults
+use Rattle.cjc_list.specs.Bytes.declared.fault.Refusal.{Refusal}
 use Rattle.cjc_list.specs.Listed.{answer}
 use Rattle.cjc_script.specs.declared.script.Script.{Script}
 use Rattle.cjc_script_text.specs.Scripted.{of_lines, refused_by, scripted}

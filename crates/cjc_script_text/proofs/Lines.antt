@@ -4,7 +4,7 @@ use Rattle.std.proofs.Common.{None, refl, sym, ap, ◌∙◌, subst}
 use Rattle.std.specs.Prelude.{option_and_then, option_map, is_some, position}
 use Rattle.std.specs.Str.{bytes_eq}
 use Rattle.std.proofs.lemmas.Option.{cond_some}
-use Rattle.cjc_list.specs.LowerBytes.declared.fault.MemberId.{MemberId}
+use Rattle.cjc_list.specs.Bytes.declared.fault.MemberId.{MemberId}
 use Rattle.cjc_list.specs.Grammar.{is_name}
 use Rattle.cjc_script.specs.declared.script.Act.{Act}
 use Rattle.cjc_script.specs.declared.script.Act.TheVariants.{Array, Object, Put}

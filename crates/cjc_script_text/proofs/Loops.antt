@@ -6,8 +6,8 @@ use Rattle.std.specs.List.{flat_map}
 use Rattle.std.specs.Prelude.{option_and_then, option_map}
 use Rattle.std.proofs.lemmas.List.{drop_all, append-nil}
 use Rattle.std.proofs.lemmas.List.Elements.{All-get_or}
-use Rattle.cjc_list.specs.LowerBytes.Found.{◌>>=◌}
-use Rattle.cjc_list.specs.LowerBytes.Text.{TextLine}
+use Rattle.cjc_list.specs.Bytes.Found.{◌>>=◌}
+use Rattle.cjc_list.specs.Bytes.Text.{TextLine}
 use Rattle.cjc_script.specs.declared.value.Value.{Value}
 use Rattle.cjc_script.specs.declared.report.Thing.{Thing}
 use Rattle.cjc_script_text.specs.declared.partial_script.PartialScript.{PartialScript}

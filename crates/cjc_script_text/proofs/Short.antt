@@ -5,8 +5,8 @@ use Rattle.std.specs.List.{All}
 use Rattle.std.specs.Prelude.{filter, Some}
 use Rattle.std.specs.Str.Lines.{StripsCarriageReturn}
 use Rattle.std.proofs.lemmas.List.Elements.{All-nil, All-cons, All-filter}
-use Rattle.cjc_list.specs.LowerBytes.Text.{TextLine, is_kept, words, kept, kept_lines, lines_from, parts_of_text}
-use Rattle.cjc_list.specs.LowerBytes.TextGrammar.{AreLines, AreWords}
+use Rattle.cjc_list.specs.Bytes.Text.{TextLine, is_kept, words, kept, kept_lines, lines_from, parts_of_text}
+use Rattle.cjc_list.specs.Bytes.TextGrammar.{AreLines, AreWords}
 use Rattle.cjc_list.proofs.BytesTextLaws.{cut_are_lines}
 use Rattle.cjc_list.proofs.BytesWordLaws.{words_parted}
 use Rattle.cjc_script_text.specs.Working.{AreShort, AreShortLines}

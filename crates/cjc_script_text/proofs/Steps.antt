@@ -3,8 +3,8 @@ use Rattle.std.proofs.Common.{◌≡◌, ℕ, ◌+◌, ◌⊎◌, inl, inr, List
 use Rattle.std.proofs.Common.{Err, refl, sym, ap, ◌∙◌, subst, arith, append_assoc, length-append}
 use Rattle.std.specs.Prelude.{option_and_then}
 use Rattle.std.proofs.lemmas.List.{append-nil}
-use Rattle.cjc_list.specs.LowerBytes.Found.{kept}
-use Rattle.cjc_list.specs.LowerBytes.Text.{TextLine, words}
+use Rattle.cjc_list.specs.Bytes.Found.{kept}
+use Rattle.cjc_list.specs.Bytes.Text.{TextLine, words}
 use Rattle.cjc_script.specs.declared.script.Act.{Act}
 use Rattle.cjc_script.specs.declared.script.Answer.{Answer}
 use Rattle.cjc_script.specs.declared.script.Entry.{Entry}

@@ -2,8 +2,8 @@
 use Rattle.std.specs.Prelude.{ℕ, List, [], ◌∷◌, Option, Some, None, option_map, option_and_then, is_some, true, false}
 use Rattle.std.specs.Prelude.{if◌then◌else◌, Result, codes}
 use Rattle.std.specs.Str.{bytes_eq}
-use Rattle.cjc_list.specs.LowerBytes.Found.{kept}
-use Rattle.cjc_list.specs.LowerBytes.Text.{TextLine, words}
+use Rattle.cjc_list.specs.Bytes.Found.{kept}
+use Rattle.cjc_list.specs.Bytes.Text.{TextLine, words}
 use Rattle.cjc_list.specs.Grammar.{is_name}
 use Rattle.cjc_script.specs.declared.script.Act.TheVariants.{Array, Object, Put}
 use Rattle.cjc_script.specs.declared.script.Reply.TheVariants.{Give, Throw}

@@ -4,3 +4,6 @@ pub mod Scripted
 pub mod Spelling
 pub mod Words
 pub mod Working
+-- Definitions of lower crates, for those above.
+pub mod List
+pub mod Script

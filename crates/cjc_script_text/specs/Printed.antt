@@ -3,8 +3,8 @@
 use Rattle.std.specs.Prelude.{ℕ, ◌+◌, List, [], ◌∷◌, ◌++◌, codes, Some, None, decimal}
 use Rattle.std.specs.List.{flat_map}
 use Rattle.std.specs.Fmt.{signed_decimal}
-use Rattle.cjc_list.specs.LowerBytes.declared.fault.MemberId.{MemberId}
-use Rattle.cjc_list.specs.LowerBytes.Refused.{field_text, method_text}
+use Rattle.cjc_list.specs.Bytes.declared.fault.MemberId.{MemberId}
+use Rattle.cjc_list.specs.Bytes.Refused.{field_text, method_text}
 use Rattle.cjc_script.specs.declared.report.FieldValue.{FieldValue}
 use Rattle.cjc_script.specs.declared.report.Note.{Note}
 use Rattle.cjc_script.specs.declared.report.Note.TheVariants as notes

@@ -1,9 +1,9 @@
 -- The script that a text is, as a function: line after line.
 use Rattle.std.specs.Prelude.{ℕ, ◌+◌, List, [], ◌∷◌, ◌++◌, length, Result, Ok, Err}
-use Rattle.cjc_list.specs.LowerBytes.Found.{◌>>=◌}
-use Rattle.cjc_list.specs.LowerBytes.Text.{TextLine, kept_lines}
-use Rattle.cjc_list.specs.LowerBytes.Refused.{refusal}
-use Rattle.cjc_list.specs.LowerBytes.declared.fault.Refusal.{Refusal}
+use Rattle.cjc_list.specs.Bytes.Found.{◌>>=◌}
+use Rattle.cjc_list.specs.Bytes.Text.{TextLine, kept_lines}
+use Rattle.cjc_list.specs.Bytes.Refused.{refusal}
+use Rattle.cjc_list.specs.Bytes.declared.fault.Refusal.{Refusal}
 use Rattle.cjc_script.specs.declared.script.Act.{Act}
 use Rattle.cjc_script.specs.declared.script.Script.{Script}
 use Rattle.cjc_script_text.specs.declared.partial_script.PartialScript.{PartialScript}

@@ -1,11 +1,11 @@
 -- Which scripts a text spells, and where it breaks the grammar.
 use Rattle.std.specs.Prelude.{◌≡◌, ◌⊎◌, ℕ, ◌+◌, List, [], ◌∷◌, ◌++◌, map, codes, Some, None, Bool, true, false}
-use Rattle.cjc_list.specs.LowerBytes.Text.{TextLine, words, kept_lines}
-use Rattle.cjc_list.specs.LowerBytes.Refused.{refusal}
-use Rattle.cjc_list.specs.LowerBytes.declared.fault.Fault.{Fault}
-use Rattle.cjc_list.specs.LowerBytes.declared.fault.Fault.TheVariants as faults
-use Rattle.cjc_list.specs.LowerBytes.declared.fault.MemberId.{MemberId}
-use Rattle.cjc_list.specs.LowerBytes.declared.fault.Refusal.{Refusal}
+use Rattle.cjc_list.specs.Bytes.Text.{TextLine, words, kept_lines}
+use Rattle.cjc_list.specs.Bytes.Refused.{refusal}
+use Rattle.cjc_list.specs.Bytes.declared.fault.Fault.{Fault}
+use Rattle.cjc_list.specs.Bytes.declared.fault.Fault.TheVariants as faults
+use Rattle.cjc_list.specs.Bytes.declared.fault.MemberId.{MemberId}
+use Rattle.cjc_list.specs.Bytes.declared.fault.Refusal.{Refusal}
 use Rattle.cjc_list.specs.Grammar.{is_name}
 use Rattle.cjc_script.specs.declared.script.Act.{Act}
 use Rattle.cjc_script.specs.declared.script.Act.TheVariants.{Array, Object, Put}

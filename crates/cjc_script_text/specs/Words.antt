@@ -3,10 +3,10 @@ use Rattle.std.specs.Prelude.{ℕ, ◌-◌, List, [], ◌∷◌, length, take, d
 use Rattle.std.specs.Prelude.{option_map, option_and_then, Bool, false, ◌==◌, ◌&&◌, ◌||◌, if◌then◌else◌, ℤ, pos, neg_ℤ}
 use Rattle.std.specs.Prelude.{codes}
 use Rattle.std.specs.Str.{bytes_eq}
-use Rattle.cjc_list.specs.LowerBytes.declared.fault.MemberId.{MemberId}
-use Rattle.cjc_list.specs.LowerBytes.Descriptor.{Parts}
-use Rattle.cjc_list.specs.LowerBytes.Spots.{desc_of}
-use Rattle.cjc_list.specs.LowerBytes.Text.{is_filled, short_decimal}
+use Rattle.cjc_list.specs.Bytes.declared.fault.MemberId.{MemberId}
+use Rattle.cjc_list.specs.Bytes.Descriptor.{Parts}
+use Rattle.cjc_list.specs.Bytes.Spots.{desc_of}
+use Rattle.cjc_list.specs.Bytes.Text.{is_filled, short_decimal}
 use Rattle.cjc_list.specs.Grammar.{is_name}
 use Rattle.cjc_script.specs.declared.value.Value.{Value}
 use Rattle.cjc_script.specs.declared.value.Value.TheVariants.{Num, Null, Obj}

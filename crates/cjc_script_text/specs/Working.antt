@@ -1,7 +1,7 @@
 -- What private functions ask of their callers.
 use Rattle.std.specs.Prelude.{ℕ, List, length, ◌<◌, ◌^◌}
 use Rattle.std.specs.List.{All}
-use Rattle.cjc_list.specs.LowerBytes.Text.{TextLine}
+use Rattle.cjc_list.specs.Bytes.Text.{TextLine}
 
 -- Each word is short enough for a descriptor to be read from it.
 abbrev pub AreShort : List (List ℕ) → Type 0

@@ -1,7 +1,7 @@
 //! One line of a script: an act, a call that a run begins with, or an answer to an imported call.
 
 ghost use Rattle.std.specs.Prelude.{◌≡◌, ◌<◌, ◌^◌, length};
-ghost use Rattle.cjc_list.specs.LowerBytes.Found.{Finds, kept};
+ghost use Rattle.cjc_list.specs.Bytes.Found.{Finds, kept};
 ghost use Rattle.cjc_script_text.specs.Grammar.{call_of, send_of, give_of, throw_of, array_act, object_act, put_act};
 ghost use Rattle.cjc_script_text.specs.Grammar.{act_or_reply_of, item_by, item_of, said};
 ghost use Rattle.cjc_script_text.specs.Working.{AreShort};

@@ -2,7 +2,7 @@
 //! stand before. Called by `reading`.
 
 ghost use Rattle.std.specs.Prelude.{◌≡◌, ◌+◌, ◌<◌, ◌^◌, length, IfOk};
-ghost use Rattle.cjc_list.specs.LowerBytes.Found.{Finds};
+ghost use Rattle.cjc_list.specs.Bytes.Found.{Finds};
 ghost use Rattle.cjc_script_text.specs.Scripted.{fresh, with_item, with_line, turns, ended};
 
 use crate::item::{Item, read_item};

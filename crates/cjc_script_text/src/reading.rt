@@ -2,11 +2,11 @@
 //! lines add up to is kept in a `PartialScript`.
 
 ghost use Rattle.std.specs.Prelude.{◌≡◌, ◌<◌, ◌≤◌, ◌^◌, ◌⊎◌, ◌↔◌, length, IfOk, IfErr};
-ghost use Rattle.cjc_list.specs.LowerBytes.Found.{Finds};
-ghost use Rattle.cjc_list.specs.LowerBytes.Text.{kept_lines};
-ghost use Rattle.cjc_list.specs.LowerBytes.Refused.{IsUnlessNoMemory};
-ghost use Rattle.cjc_list.specs.LowerBytes.declared.fault.Fault.TheVariants as faults;
-ghost use Rattle.cjc_list.specs.LowerBytes.declared.fault.Refusal.{Refusal as Refused};
+ghost use Rattle.cjc_list.specs.Bytes.Found.{Finds};
+ghost use Rattle.cjc_list.specs.Bytes.Text.{kept_lines};
+ghost use Rattle.cjc_list.specs.Bytes.Refused.{IsUnlessNoMemory};
+ghost use Rattle.cjc_list.specs.Bytes.declared.fault.Fault.TheVariants as faults;
+ghost use Rattle.cjc_list.specs.Bytes.declared.fault.Refusal.{Refusal as Refused};
 ghost use Rattle.cjc_list.specs.Listed.{answer};
 ghost use Rattle.cjc_script_text.specs.Scripted.{ScriptTree, Codes, fresh, with_lines, of_lines, scripted};
 ghost use Rattle.cjc_script_text.specs.Spelling.{IsSpelt, IsBroken, SaysBroken};

@@ -2,7 +2,7 @@
 
 ghost use Rattle.std.specs.Prelude.{◌≡◌, ◌==◌, ◌<◌, ◌^◌, length, position};
 ghost use Rattle.std.specs.List.{list_all};
-ghost use Rattle.cjc_list.specs.LowerBytes.Found.{Finds, kept};
+ghost use Rattle.cjc_list.specs.Bytes.Found.{Finds, kept};
 ghost use Rattle.cjc_list.specs.Grammar.{is_name_byte, is_name_part, is_name};
 ghost use Rattle.cjc_script_text.specs.Words.{number_of, reference_of, value_of, values_of, is_method, is_array};
 ghost use Rattle.cjc_script_text.specs.Words.{method_of};

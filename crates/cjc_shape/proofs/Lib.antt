@@ -10,6 +10,8 @@ pub use Rattle.cjc_judge.proofs.Each as JudgeEach
 pub use Rattle.cjc_judge.proofs.Early as JudgeEarly
 pub use Rattle.cjc_judge.proofs.Families as JudgeFamilies
 pub use Rattle.cjc_judge.proofs.Firsts as JudgeFirsts
+pub use Rattle.cjc_judge.proofs.Items as JudgeItems
+pub use Rattle.cjc_judge.proofs.JointLaws as JudgeJointLaws
 pub use Rattle.cjc_judge.proofs.OneRefusal as JudgeOneRefusal
 pub use Rattle.cjc_judge.proofs.Places as JudgePlaces
 pub use Rattle.cjc_judge.proofs.RangesLaws.AreNumbers as JudgeAreNumbers

@@ -5,7 +5,7 @@ use Rattle.cjc_judge.specs.declared.groups.Group.TheVariants as groups
 use Rattle.cjc_judge.specs.declared.judged.Judged.{Judged}
 use Rattle.cjc_judge.specs.Judged.{IsJudged}
 use Rattle.cjc_shape.specs.Judged.Tested.{AreFiles}
-use Rattle.cjc_judge.specs.List.Listed.{ListTree}
+use Rattle.cjc_methods.specs.List.Listed.{ListTree}
 
 -- what a package is tested for before it is written, beyond single files, the classes together and what instructions
 -- name

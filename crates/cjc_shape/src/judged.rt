@@ -1,26 +1,26 @@
 //! What judging promises of a package is what selecting its methods, laying them out and emitting them ask. For whoever
 //! converts a package. It has definitions and laws alone; nothing here runs.
 ghost use Rattle.std.specs.Prelude.{◌≡◌, ◌≤◌, ℕ, Bool, false, List, slice_get, Some};
-ghost use Rattle.cjc_narrow_proof.specs.Subset.Ints.{code_works_on_int};
-ghost use Rattle.cjc_methods.specs.Bytes.declared.fault.MemberId.{MemberId as Member};
-ghost use Rattle.cjc_methods.specs.ClassFile.Code.{CodeTree};
-ghost use Rattle.cjc_methods.specs.ClassFile.declared.tree.ClassTree.{ClassTree};
-ghost use Rattle.cjc_methods.specs.ClassFile.declared.tree.MethodTree.{MethodTree};
-ghost use Rattle.cjc_narrow_proof.specs.Bytecode.declared.method_code.MethodCode.{MethodCode};
-ghost use Rattle.cjc_narrow_proof.specs.Emit.Emitted.{IsEmittable, IsNamedBy};
+ghost use Rattle.cjc_methods.specs.Subset.Ints.{code_works_on_int};
+ghost use Rattle.cjc_exported.specs.Bytes.declared.fault.MemberId.{MemberId as Member};
+ghost use Rattle.cjc_exported.specs.ClassFile.Code.{CodeTree};
+ghost use Rattle.cjc_exported.specs.ClassFile.declared.tree.ClassTree.{ClassTree};
+ghost use Rattle.cjc_exported.specs.ClassFile.declared.tree.MethodTree.{MethodTree};
+ghost use Rattle.cjc_methods.specs.Bytecode.declared.method_code.MethodCode.{MethodCode};
+ghost use Rattle.cjc_methods.specs.Emit.Emitted.{IsEmittable, IsNamedBy};
 ghost use Rattle.cjc_judge.specs.declared.judged.Judged.{Judged};
-ghost use Rattle.cjc_exported.specs.Layout.Layouts.{IsLayout, IsWhole};
-ghost use Rattle.cjc_exported.specs.Layout.declared.layout.Layout.{Layout as Placing};
-ghost use Rattle.cjc_judge.specs.List.Listed.{ListTree};
-ghost use Rattle.cjc_methods.specs.NCode.Lowering.Naming.{Naming};
-ghost use Rattle.cjc_narrow_proof.specs.Narrow.Rows.Selected.{selected_code};
-ghost use Rattle.cjc_methods.specs.NCode.declared.narrow.NMethod.{NMethod as Narrow};
-ghost use Rattle.cjc_methods.specs.Pool.Pool.{PoolView, token_in};
-ghost use Rattle.cjc_methods.specs.Pool.Named.{CallsHaveTokens};
-ghost use Rattle.cjc_narrow_proof.specs.Narrow.Select.Select.{IsSelectable};
-ghost use Rattle.cjc_exported.specs.Tokens.Tokens.{assigned};
-ghost use Rattle.cjc_narrow_proof.specs.Types.declared.table.TypeTable.{TypeTable};
-ghost use Rattle.cjc_narrow_proof.specs.Narrow.Written.Rows.{has_rows, rows_by};
+ghost use Rattle.cjc_methods.specs.Layout.Layouts.{IsLayout, IsWhole};
+ghost use Rattle.cjc_methods.specs.Layout.declared.layout.Layout.{Layout as Placing};
+ghost use Rattle.cjc_methods.specs.List.Listed.{ListTree};
+ghost use Rattle.cjc_narrow_proof.specs.NCode.Lowering.Naming.{Naming};
+ghost use Rattle.cjc_methods.specs.Narrow.Rows.Selected.{selected_code};
+ghost use Rattle.cjc_narrow_proof.specs.NCode.declared.narrow.NMethod.{NMethod as Narrow};
+ghost use Rattle.cjc_methods.specs.LowerPool.Pool.{PoolView, token_in};
+ghost use Rattle.cjc_methods.specs.LowerPool.Named.{CallsHaveTokens};
+ghost use Rattle.cjc_methods.specs.Narrow.Select.Select.{IsSelectable};
+ghost use Rattle.cjc_methods.specs.Tokens.Tokens.{assigned};
+ghost use Rattle.cjc_methods.specs.Types.declared.table.TypeTable.{TypeTable};
+ghost use Rattle.cjc_methods.specs.Narrow.Written.Rows.{has_rows, rows_by};
 ghost use Rattle.cjc_shape.specs.Judged.Pooled.{ArePooled};
 ghost use Rattle.cjc_shape.specs.Judged.Tested.{IsOne, IsTested, states};
 

@@ -2,28 +2,28 @@
 -- a receiver.
 use Rattle.std.specs.Prelude.{◌≡◌, ℕ, List, Some, false, true}
 use Rattle.std.specs.List.{list_all}
-use Rattle.cjc_narrow_proof.specs.JvmSemantics.Linked.{Method}
-use Rattle.cjc_narrow_proof.specs.JvmSemantics.OnePackage.{is_initialiser, method_by}
+use Rattle.cjc_classes.specs.JvmSemantics.Linked.{Method}
+use Rattle.cjc_classes.specs.JvmSemantics.OnePackage.{is_initialiser, method_by}
 use Rattle.cjc_bytes.specs.Descriptor.{IsClassName}
 use Rattle.cjc_bytes.specs.declared.fault.MemberId.{MemberId}
 use Rattle.cjc_bytes.specs.declared.settings.Settings.{Settings}
-use Rattle.cjc_check_proof.specs.LowerWorldProof.Calls.Solid.{IsOwn}
-use Rattle.cjc_tokens.specs.ClassFile.Code.{CodeTree}
-use Rattle.cjc_tokens.specs.ClassFile.declared.tree.ClassTree.{ClassTree}
-use Rattle.cjc_tokens.specs.ClassFile.declared.tree.MethodTree.{MethodTree}
-use Rattle.cjc_narrow_proof.specs.Bytecode.declared.method_code.MethodCode.{MethodCode}
-use Rattle.cjc_tokens.specs.Fixpoint.Tables.{HasRow}
+use Rattle.cjc_check_proof.specs.WorldProof.Calls.Solid.{IsOwn}
+use Rattle.cjc_world.specs.ClassFile.Code.{CodeTree}
+use Rattle.cjc_world.specs.ClassFile.declared.tree.ClassTree.{ClassTree}
+use Rattle.cjc_world.specs.ClassFile.declared.tree.MethodTree.{MethodTree}
+use Rattle.cjc_components.specs.Bytecode.declared.method_code.MethodCode.{MethodCode}
+use Rattle.cjc_vtable.specs.Fixpoint.Tables.{HasRow}
 use Rattle.cjc_narrow_proof.specs.Laws.Left.{HasLeast}
 use Rattle.cjc_narrow_proof.specs.Laws.Unbroken.{IsUnbroken}
 use Rattle.cjc_narrow_proof.specs.Runs.Tables.{Tables}
-use Rattle.cjc_check_proof.specs.LowerWorldProof.Files.{AreReadFiles, ExportsAreSound}
+use Rattle.cjc_check_proof.specs.WorldProof.Files.{AreReadFiles, ExportsAreSound}
 use Rattle.cjc_narrow_proof.specs.Tables.Calls.{count_of}
-use Rattle.cjc_narrow_proof.specs.Types.declared.cell.Cell.{Cell}
-use Rattle.cjc_narrow_proof.specs.Types.declared.cell.Cell.TheVariants.{Refs}
-use Rattle.cjc_narrow_proof.specs.Types.declared.state.State.{State}
-use Rattle.cjc_narrow_proof.specs.Types.Flow.{Body}
-use Rattle.cjc_narrow_proof.specs.Types.Rules.{receiver_class}
-use Rattle.cjc_narrow_proof.specs.Types.Steps.{operand}
+use Rattle.cjc_classes.specs.Types.declared.cell.Cell.{Cell}
+use Rattle.cjc_classes.specs.Types.declared.cell.Cell.TheVariants.{Refs}
+use Rattle.cjc_classes.specs.Types.declared.state.State.{State}
+use Rattle.cjc_classes.specs.Types.Flow.{Body}
+use Rattle.cjc_classes.specs.Types.Rules.{receiver_class}
+use Rattle.cjc_classes.specs.Types.Steps.{operand}
 use Rattle.cjc_world.specs.Classes.{all_classes}
 use Rattle.cjc_world.specs.Files.{Files}
 use Rattle.cjc_world.specs.Subtype.{is_subtype}

@@ -2,18 +2,18 @@
 //! files where it breaks no limit of sizes, and its export file. For whoever converts a package. It has laws
 //! alone; nothing here runs.
 ghost use Rattle.std.specs.Prelude.{◌≡◌, ◌≤◌, [], length, List, None, ℕ};
-ghost use Rattle.cjc_components.specs.CapWrite.Files.{limit_of, part};
-ghost use Rattle.cjc_components.specs.CapWrite.Method.{method_bytes};
-ghost use Rattle.cjc_components.specs.CapWrite.Writable.{IsWritable};
+ghost use Rattle.cjc_classes.specs.CapWrite.Files.{limit_of, part};
+ghost use Rattle.cjc_classes.specs.CapWrite.Method.{method_bytes};
+ghost use Rattle.cjc_classes.specs.CapWrite.Writable.{IsWritable};
 ghost use Rattle.cjc_components.specs.Components.{components_of};
 ghost use Rattle.cjc_components.specs.ExportFile.{export_of};
 ghost use Rattle.cjc_components.specs.Limits.{size_breaks};
 ghost use Rattle.cjc_components.specs.Package.{Package};
-ghost use Rattle.cjc_tokens.specs.ExportFile.Writable.{IsWritable as CanBeExported};
+ghost use Rattle.cjc_world.specs.ExportFile.Writable.{IsWritable as CanBeExported};
 ghost use Rattle.cjc_shape_proof.specs.Written.LaidOut.{AidsAreShort, ExportedInterfacesStand, IsLaidOut};
-ghost use Rattle.cjc_shape.specs.Judge.Spelt.{IsRead};
-ghost use Rattle.cjc_shape.specs.Judge.declared.judged.Judged.{Judged};
-ghost use Rattle.cjc_components.specs.List.Listed.{ListTree};
+ghost use Rattle.cjc_shape.specs.LowerJudge.Spelt.{IsRead};
+ghost use Rattle.cjc_shape.specs.LowerJudge.declared.judged.Judged.{Judged};
+ghost use Rattle.cjc_classes.specs.List.Listed.{ListTree};
 
 use crate::written::{export_files_fit, exported_classes_stand, laid_out_packages_fit};
 

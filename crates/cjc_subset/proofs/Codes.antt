@@ -1,8 +1,8 @@
 -- What is broken in a method by its numbers, where the class and the method are there, and where one is not.
 use Rattle.std.proofs.Common.{◌≡◌, ◌∙◌, ℕ, sym, ap, subst, List, []}
 use Rattle.std.specs.Prelude.{Option, Some, None, slice_get}
-use Rattle.cjc_code.specs.LowerClassFile.declared.tree.ClassTree.{ClassTree}
-use Rattle.cjc_code.specs.LowerClassFile.declared.tree.MethodTree.{MethodTree}
+use Rattle.cjc_code.specs.ClassFile.declared.tree.ClassTree.{ClassTree}
+use Rattle.cjc_code.specs.ClassFile.declared.tree.MethodTree.{MethodTree}
 use Rattle.cjc_world.specs.Files.{Files}
 use Rattle.cjc_bytes.specs.Breaks.{Break, IsFirstOf}
 use Rattle.cjc_subset.specs.Places.{of_class, of_code, of_method}

@@ -1,7 +1,7 @@
 -- What a class breaks against one that stands above, and against another.
 use Rattle.std.proofs.Common.{◌≡◌, sym, ap, Bool, true, false, List, []}
 use Rattle.std.specs.Prelude.{if◌then◌else◌}
-use Rattle.cjc_code.specs.LowerClassFile.declared.tree.ClassTree.{ClassTree}
+use Rattle.cjc_code.specs.ClassFile.declared.tree.ClassTree.{ClassTree}
 use Rattle.cjc_world.specs.Classes.{Class}
 use Rattle.cjc_subset.specs.Overriding.{class_against, is_inherited, supertype_breaks}
 use Rattle.cjc_bytes.specs.Order.{FilePlace}

@@ -9,8 +9,8 @@ use Rattle.cjc_bytes.specs.AccessFlags.{is_abstract, is_interface, is_private, i
 use Rattle.cjc_bytes.specs.Breaks.{Break, at, each_from}
 use Rattle.cjc_bytes.specs.Order.{FilePlace}
 use Rattle.cjc_bytes.proofs.Bools.{or_left, or_right}
-use Rattle.cjc_code.specs.LowerClassFile.declared.tree.ClassTree.{ClassTree}
-use Rattle.cjc_code.specs.LowerClassFile.declared.tree.MethodTree.{MethodTree}
+use Rattle.cjc_code.specs.ClassFile.declared.tree.ClassTree.{ClassTree}
+use Rattle.cjc_code.specs.ClassFile.declared.tree.MethodTree.{MethodTree}
 use Rattle.cjc_world.specs.Classes.{Class, Member, declared, method_of_class}
 use Rattle.cjc_world.specs.Lookup.{is_called, selected}
 use Rattle.cjc_subset.specs.Members.{hit, is_initialiser}

@@ -11,8 +11,9 @@ pub mod Checks
 pub mod Ints
 pub mod Working
 -- Definitions of lower crates, for those above.
-pub mod Range
-pub mod ClassFile
-pub mod Bytecode
-pub mod ExportFile
-pub mod World
+pub mod Bytes
+pub mod LowerRange
+pub mod LowerClassFile
+pub mod LowerBytecode
+pub mod LowerExportFile
+pub mod LowerWorld

@@ -5,8 +5,8 @@ use Rattle.std.specs.Prelude.{None}
 use Rattle.std.specs.List.{list_any}
 use Rattle.std.specs.Str.{bytes_eq}
 use Rattle.cjc_bytes.specs.declared.fault.MemberId.{MemberId}
-use Rattle.cjc_code.specs.LowerClassFile.declared.tree.ClassTree.{ClassTree}
-use Rattle.cjc_code.specs.LowerClassFile.declared.tree.MethodTree.{MethodTree}
+use Rattle.cjc_code.specs.ClassFile.declared.tree.ClassTree.{ClassTree}
+use Rattle.cjc_code.specs.ClassFile.declared.tree.MethodTree.{MethodTree}
 use Rattle.cjc_world.specs.Classes.{Class, Member, all_classes, declared, imported}
 use Rattle.cjc_bytes.specs.AccessFlags.{acc_public, is_abstract, is_interface, is_private, is_protected, is_public}
 use Rattle.cjc_bytes.specs.AccessFlags.{is_static}

@@ -2,8 +2,8 @@
 
 ghost use Rattle.std.specs.Prelude.{◌≡◌, ◌&&◌, ◌<◌, ℕ, [], length, map, not, option_map, is_some, nat_lt, IfErr, IfOk};
 ghost use Rattle.std.specs.Prelude.{OnOk};
-ghost use Rattle.cjc_code.specs.LowerClassFile.declared.tree.MethodTree.{MethodTree as Method};
-ghost use Rattle.cjc_code.specs.LowerClassFile.declared.tree.ClassTree.{ClassTree as Tree};
+ghost use Rattle.cjc_code.specs.ClassFile.declared.tree.MethodTree.{MethodTree as Method};
+ghost use Rattle.cjc_code.specs.ClassFile.declared.tree.ClassTree.{ClassTree as Tree};
 ghost use Rattle.cjc_bytes.specs.AccessFlags.{is_interface};
 ghost use Rattle.cjc_bytes.specs.Breaks.{IsFirstRefusal, IsFirstOf, each};
 ghost use Rattle.cjc_bytes.specs.Told.{break_of, spot_of};

@@ -4,7 +4,7 @@
 ghost use Rattle.std.specs.Prelude.{◌≡◌, ◌<◌, length};
 ghost use Rattle.cjc_bytes.specs.Order.{FilePlace};
 ghost use Rattle.cjc_bytes.specs.Told.{file_place_of, spot_of};
-ghost use Rattle.cjc_code.specs.LowerClassFile.declared.tree.ClassTree.{ClassTree as Tree};
+ghost use Rattle.cjc_code.specs.ClassFile.declared.tree.ClassTree.{ClassTree as Tree};
 ghost use Rattle.cjc_subset.specs.Places.{at_class, at_field, at_method};
 
 use cjc_bytes::{FileRef, Part, PlaceRef, RulePlace};

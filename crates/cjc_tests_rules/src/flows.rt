@@ -103,7 +103,7 @@ impl Flow for NameFlow<'_> {
 
 impl Repeating for NameFlow<'_> {
     ghost use Rattle.cjc_tests_rules.specs.Flows.Names.{name_flow};
-    ghost use Rattle.cjc_types.specs.LowerFixpoint.Working.ShortenedLaws.{never};
+    ghost use Rattle.cjc_types.specs.Fixpoint.Working.ShortenedLaws.{never};
 
     ghost again = { λ _ _. false };
 

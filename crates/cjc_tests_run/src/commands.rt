@@ -9,13 +9,14 @@ use std::test::*;
 
 const LIST: &[u8] = b"package p A000000001 1.0\nexport lang.exp\nclass T.class\n";
 
-/// A folder of the list, what it names, and a script. The calls with these numbers fail.
+/// A folder of the list, what it names, a script, and a text that names the one package. The calls with these numbers fail.
 pub(crate) fn folder(alloc: Global, failing: Row<u32>) -> Result<MemShelf, NoMemory> {
     let mut shelf = MemShelf::new(alloc, failing);
     shelf.add(b"list", LIST)?;
     shelf.add(b"lang.exp", LANG)?;
     shelf.add(b"T.class", SUM)?;
     shelf.add(b"script", b"call p/T f(S)S 32767\n")?;
+    shelf.add(b"group", b"list out\n")?;
     Ok(shelf)
 }
 
@@ -63,7 +64,7 @@ fn says(
 }
 
 /// Commands one after the other in one folder, and what they print.
-const COMMANDS: [(&str, &str); 7] = [
+const COMMANDS: [(&str, &str); 9] = [
     (
         "convert list out",
         "Header.cap 20\nDirectory.cap 36\nImport.cap 14\nConstantPool.cap 5\nClass.cap 15\nMethod.cap 10\n\
@@ -73,6 +74,8 @@ const COMMANDS: [(&str, &str); 7] = [
     ("jvm list script 100", "result -32768\ndone\n"),
     ("card list out script 100", "result -32768\ndone\n"),
     ("verify list out", "ok\n"),
+    ("link group script 100", "result -32768\ndone\n"),
+    ("linkjvm group script 100", "result -32768\ndone\n"),
     ("compat lang.exp lang.exp", "ok\n"),
     (
         "make 7 3",

@@ -2,17 +2,17 @@
 -- side
 -- by side (Java Card Virtual Machine Specification 2.2.2, chapter 5).
 use Rattle.std.specs.Prelude.{◌≡◌, ℕ, List, [], ◌∷◌, Some, slice_get}
-use Rattle.cjc_subset.specs.ClassFile.declared.tree.ClassTree.{ClassTree}
+use Rattle.cjc_code.specs.ClassFile.declared.tree.ClassTree.{ClassTree}
 use Rattle.cjc_components.specs.ExportFile.{export_of}
 use Rattle.cjc_components.specs.Limits.{limit_breaks}
-use Rattle.cjc_components.specs.List.Listed.{ListTree}
+use Rattle.cjc_token_proof.specs.List.Listed.{ListTree}
 use Rattle.cjc_components.specs.Package.{Package}
-use Rattle.cjc_subset.specs.ExportFile.declared.tree.ExportClass.{ExportClass}
-use Rattle.cjc_subset.specs.ExportFile.declared.tree.ExportTree.{ExportTree}
-use Rattle.cjc_shape_proof.specs.Judge.Spelt.{IsRead}
-use Rattle.cjc_shape_proof.specs.Judge.declared.judged.Judged.{Judged}
-use Rattle.cjc_shape_proof.specs.Shape.Prepared.{IsSound}
-use Rattle.cjc_shape_proof.specs.Shape.Whole.Conversion.{IsPackageOf}
+use Rattle.cjc_world.specs.ExportFile.declared.tree.ExportClass.{ExportClass}
+use Rattle.cjc_world.specs.ExportFile.declared.tree.ExportTree.{ExportTree}
+use Rattle.cjc_shape_proof.specs.LowerJudge.Spelt.{IsRead}
+use Rattle.cjc_shape_proof.specs.LowerJudge.declared.judged.Judged.{Judged}
+use Rattle.cjc_shape_proof.specs.LowerShape.Prepared.{IsSound}
+use Rattle.cjc_shape_proof.specs.LowerShape.Whole.Conversion.{IsPackageOf}
 use Rattle.cjc_subset.specs.Members.{imports}
 use Rattle.cjc_theorem.specs.FairExports.Fair.{ExportsAreFair, world_of}
 use Rattle.cjc_world.specs.Supertypes.{IsAcyclic, Lists}

@@ -18,12 +18,12 @@ ghost use Rattle.cjc_components.specs.Components.{components_of};
 ghost use Rattle.cjc_components.specs.Limits.{limit_breaks};
 ghost use Rattle.cjc_components.specs.Package.{Package};
 ghost use Rattle.cjc_theorem.specs.FairExports.Fair.{ExportsAreFair};
-ghost use Rattle.cjc_shape_proof.specs.Judge.Spelt.{IsRead};
-ghost use Rattle.cjc_shape_proof.specs.Judge.declared.judged.Judged.{Judged};
-ghost use Rattle.cjc_components.specs.List.Listed.{ListTree};
-ghost use Rattle.cjc_shape_proof.specs.Shape.Prepared.{IsSound};
-ghost use Rattle.cjc_components.specs.CheckRules.Consistent.{Consistent};
-ghost use Rattle.cjc_shape_proof.specs.Shape.Whole.Conversion.{IsPackageOf};
+ghost use Rattle.cjc_shape_proof.specs.LowerJudge.Spelt.{IsRead};
+ghost use Rattle.cjc_shape_proof.specs.LowerJudge.declared.judged.Judged.{Judged};
+ghost use Rattle.cjc_token_proof.specs.List.Listed.{ListTree};
+ghost use Rattle.cjc_shape_proof.specs.LowerShape.Prepared.{IsSound};
+ghost use Rattle.cjc_token_proof.specs.CheckRules.Consistent.{Consistent};
+ghost use Rattle.cjc_shape_proof.specs.LowerShape.Whole.Conversion.{IsPackageOf};
 
 use crate::fair_exports::fair_exports_are_sound;
 pub use call_opcodes::calls_have_opcodes;

@@ -7,7 +7,7 @@ ghost use Rattle.cjc_code.specs.declared.method_code.MethodCode.{MethodCode};
 ghost use Rattle.cjc_components.specs.Package.{Package, world};
 ghost use Rattle.cjc_theorem.specs.FairExports.Fair.{ExportsAreFair};
 ghost use Rattle.cjc_theorem.specs.FairExports.Worked.{framework, lang, q};
-ghost use Rattle.cjc_token_proof.specs.WorldProof.Files.{ExportsAreSound};
+ghost use Rattle.cjc_shape_proof.specs.WorldProof.Files.{ExportsAreSound};
 ghost use Rattle.cjc_token_proof.specs.Tables.Sound.{IsSound};
 ghost use Rattle.cjc_vtable.specs.Kept.{ExportsAgree};
 ghost use Rattle.cjc_world.specs.Files.{Files};

@@ -4,11 +4,11 @@
 ghost use Rattle.std.specs.Prelude.{◌≡◌, ℕ, List, ◌∷◌, ◌++◌};
 ghost use Rattle.cjc_components.specs.ExportFile.{export_of};
 ghost use Rattle.cjc_components.specs.Package.{Package};
-ghost use Rattle.cjc_subset.specs.ExportFile.declared.tree.ExportTree.{ExportTree};
+ghost use Rattle.cjc_world.specs.ExportFile.declared.tree.ExportTree.{ExportTree};
 ghost use Rattle.cjc_theorem.specs.Built.{AreBuilt, AreDistinct, IsWritten};
 ghost use Rattle.cjc_theorem.specs.FairExports.Fair.{ExportsAreFair};
-ghost use Rattle.cjc_shape_proof.specs.Judge.declared.judged.Judged.{Judged};
-ghost use Rattle.cjc_components.specs.List.Listed.{ListTree};
+ghost use Rattle.cjc_shape_proof.specs.LowerJudge.declared.judged.Judged.{Judged};
+ghost use Rattle.cjc_token_proof.specs.List.Listed.{ListTree};
 ghost use Rattle.cjc_world.specs.Upwards.{Has};
 
 use cjc_shape_proof::written::converted_classes_keep_rules;

@@ -2,21 +2,21 @@
 //! instructions of its methods name fits their types, and what its static image says is of sound types. Laws
 //! alone: nothing here runs.
 ghost use Rattle.std.specs.Prelude.{ℕ, List};
-ghost use Rattle.cjc_ncode.specs.CardSemantics.Bytecode.Runs.{Agree};
+ghost use Rattle.cjc_token_proof.specs.CardSemantics.Bytecode.Runs.{Agree};
 ghost use Rattle.cjc_bytes.specs.Breaks.{Break};
 ghost use Rattle.cjc_bytes.specs.declared.fault.MemberId.{MemberId};
 ghost use Rattle.cjc_bytes.specs.declared.settings.Settings.{Settings};
 ghost use Rattle.cjc_jvm_semantics.specs.ByName.{run as run_by_name};
 ghost use Rattle.cjc_jvm_semantics.specs.Linked.{Method};
-ghost use Rattle.cjc_components.specs.Clinit.Image.{IsImage};
-ghost use Rattle.cjc_components.specs.Clinit.Rules.{BreaksImage};
+ghost use Rattle.cjc_token_proof.specs.Clinit.Image.{IsImage};
+ghost use Rattle.cjc_token_proof.specs.Clinit.Rules.{BreaksImage};
 ghost use Rattle.cjc_code.specs.declared.method_code.MethodCode.{MethodCode};
-ghost use Rattle.cjc_narrow.specs.Rows.Package.{run as narrow_run};
+ghost use Rattle.cjc_token_proof.specs.Narrow.Rows.Package.{run as narrow_run};
 ghost use Rattle.cjc_shape_proof.specs.Whole.{IsWhole};
 ghost use Rattle.cjc_narrow_proof.specs.Runs.Converted.{IsConverted, IsFirst};
 ghost use Rattle.cjc_narrow_proof.specs.Runs.Names.{AreNamed};
 ghost use Rattle.cjc_narrow_proof.specs.Runs.Tables.{Tables, look_ups, narrow_codes};
-ghost use Rattle.cjc_jvm_semantics.specs.Script.declared.script.Script.{Script};
+ghost use Rattle.cjc_token_proof.specs.Script.declared.script.Script.{Script};
 ghost use Rattle.cjc_world.specs.Files.{Files};
 ghost use Rattle.cjc_world.specs.declared.image.StaticImage.{StaticImage};
 

@@ -5,5 +5,15 @@ pub mod Tables
 pub mod WrittenCalls
 pub mod WrittenSends
 -- Definitions of lower crates, for those above.
-pub mod JvmSemantics
-pub mod WorldProof
+pub mod List
+pub mod Script
+pub mod ClassOrder
+pub mod VTable
+pub mod Clinit
+pub mod CheckRules
+pub mod Types
+pub mod CardSemantics
+pub mod NCode
+pub mod LowerWorldProof
+pub mod Narrow
+pub mod Layout

@@ -16,7 +16,7 @@ ghost use Rattle.cjc_token_proof.specs.Calls.Dispatching.{DispatchAgrees, SaysTa
 ghost use Rattle.cjc_world.specs.declared.image.StaticImage.{StaticImage};
 ghost use Rattle.cjc_world.specs.Files.{Files};
 ghost use Rattle.cjc_jvm_semantics.specs.Linked.{Method};
-ghost use Rattle.cjc_components.specs.Narrow.Rows.Package.{named};
+ghost use Rattle.cjc_components.specs.LowerNarrow.Rows.Package.{named};
 ghost use Rattle.cjc_ncode.specs.Lowering.Agreement.{MethodsAgree};
 ghost use Rattle.cjc_ncode.specs.Lowering.Placed.{Placed};
 ghost use Rattle.cjc_token_proof.specs.Calls.Reaching.{BeginsAtOffsets, SaysReceiver, VirtualCallsReach};

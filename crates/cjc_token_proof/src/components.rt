@@ -2,11 +2,11 @@
 //! of components give, one law a sentence. The converter's promise rests on them. Nothing here runs.
 ghost use Rattle.std.specs.Prelude.{◌≡◌, ℕ, List, [], true};
 ghost use Rattle.cjc_world.specs.declared.image.StaticImage.{StaticImage as Image};
-ghost use Rattle.cjc_components.specs.CheckRules.Classes.{is_there};
-ghost use Rattle.cjc_components.specs.CheckRules.Listed.{directory_spots, flags_spots};
-ghost use Rattle.cjc_components.specs.CheckRules.Imports.{import_spots};
-ghost use Rattle.cjc_components.specs.CheckRules.Statics.{image_spots};
-ghost use Rattle.cjc_components.specs.CheckRules.Described.{all_starts, classes_in_order};
+ghost use Rattle.cjc_components.specs.LowerCheckRules.Classes.{is_there};
+ghost use Rattle.cjc_components.specs.LowerCheckRules.Listed.{directory_spots, flags_spots};
+ghost use Rattle.cjc_components.specs.LowerCheckRules.Imports.{import_spots};
+ghost use Rattle.cjc_components.specs.LowerCheckRules.Statics.{image_spots};
+ghost use Rattle.cjc_components.specs.LowerCheckRules.Described.{all_starts, classes_in_order};
 ghost use Rattle.cjc_world.specs.Order.{class_order};
 ghost use Rattle.cjc_components.specs.Package.{Package, world};
 ghost use Rattle.cjc_components.specs.Class.{class_info};

@@ -2,23 +2,23 @@
 //! files and export files say by name. Whoever promises that components run as narrow code cites it. It has
 //! definitions and laws alone, and knows no instruction.
 ghost use Rattle.std.specs.Prelude.{◌≡◌, ℕ, Bool, List, [], ◌∷◌, map, Some, None, slice_get, true, false};
-ghost use Rattle.cjc_tokens.specs.ClassFile.declared.tree.ClassTree.{ClassTree};
-ghost use Rattle.cjc_tokens.specs.ClassFile.declared.tree.FieldTree.{FieldTree};
+ghost use Rattle.cjc_world.specs.ClassFile.declared.tree.ClassTree.{ClassTree};
+ghost use Rattle.cjc_world.specs.ClassFile.declared.tree.FieldTree.{FieldTree};
 ghost use Rattle.cjc_bytes.specs.declared.fault.MemberId.{MemberId};
-ghost use Rattle.cjc_ncode.specs.Bytecode.declared.method_code.MethodCode.{MethodCode};
+ghost use Rattle.cjc_world_proof.specs.Bytecode.declared.method_code.MethodCode.{MethodCode};
 ghost use Rattle.cjc_world.specs.Classes.{Class, class_named};
 ghost use Rattle.cjc_world.specs.Files.{Files};
 ghost use Rattle.cjc_world.specs.Order.{class_order};
-ghost use Rattle.cjc_vtable.specs.Subset.Checks.{check_breaks};
+ghost use Rattle.cjc_world_proof.specs.Subset.Checks.{check_breaks};
 ghost use Rattle.cjc_bytes.specs.declared.settings.Settings.{Settings};
-ghost use Rattle.cjc_components.specs.CheckRules.Complete.{complete};
+ghost use Rattle.cjc_components.specs.LowerCheckRules.Complete.{complete};
 ghost use Rattle.cjc_tokens.specs.Fields.{instance_token, is_instance};
-ghost use Rattle.cjc_world_proof.specs.Clinit.Image.{IsImage, field_id};
+ghost use Rattle.cjc_world_proof.specs.LowerClinit.Image.{IsImage, field_id};
 ghost use Rattle.cjc_world_proof.specs.Initialisers.Values.{StandOnce};
 ghost use Rattle.cjc_jvm_semantics.specs.Linked.{Method};
 ghost use Rattle.cjc_ncode.specs.ByLabel.{Callee, Named};
 ghost use Rattle.cjc_ncode.specs.declared.narrow.NMethod.{NMethod};
-ghost use Rattle.cjc_components.specs.Narrow.Rows.Package.{first_memory, named};
+ghost use Rattle.cjc_components.specs.LowerNarrow.Rows.Package.{first_memory, named};
 ghost use Rattle.cjc_card_semantics.specs.Bytecode.Renaming.{heap_object_as, memory_as};
 ghost use Rattle.cjc_card_semantics.specs.Machine.Statics.{first_arrays, first_memory as first_on_card};
 ghost use Rattle.cjc_ncode.specs.Lowering.Agreement.{IsKnownCall, KnownNames, Memories, TablesAgree, known_by};

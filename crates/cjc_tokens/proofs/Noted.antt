@@ -3,7 +3,7 @@ use Rattle.std.proofs.Common.{◌≡◌, ℕ, suc, ◌+◌, ◌<◌, refl, sym, 
 use Rattle.std.proofs.Common.{length, take, get_or, Some, None}
 use Rattle.std.specs.Prelude.{map, Option, option_map, position, if◌then◌else◌, ◌&&◌, ◌||◌}
 use Rattle.std.proofs.lemmas.List.{length-take-le, take_more}
-use Rattle.cjc_world.specs.LowerClassFile.declared.tree.MethodTree.{MethodTree}
+use Rattle.cjc_world.specs.ClassFile.declared.tree.MethodTree.{MethodTree}
 use Rattle.cjc_world.specs.Classes.{Member, method_of_class}
 use Rattle.cjc_world.specs.Lookup.{is_called}
 use Rattle.cjc_world.proofs.Places.{position_of_map}

@@ -4,7 +4,7 @@ use Rattle.std.proofs.Common.{append_assoc, append-nil, length, take, get_or}
 use Rattle.std.proofs.lemmas.List.{take_more}
 use Rattle.cjc_bytes.specs.declared.fault.MemberId.{MemberId}
 use Rattle.cjc_bytes.proofs.Lists.{map_append}
-use Rattle.cjc_world.specs.LowerClassFile.declared.tree.MethodTree.{MethodTree}
+use Rattle.cjc_world.specs.ClassFile.declared.tree.MethodTree.{MethodTree}
 use Rattle.std.specs.Prelude.{map, Option, Some, if◌then◌else◌, option_map}
 use Rattle.cjc_world.specs.declared.found.Found.{Found}
 use Rattle.cjc_world.specs.Classes.{Member, method_of_class}

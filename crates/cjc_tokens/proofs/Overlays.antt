@@ -4,8 +4,8 @@ use Rattle.std.proofs.Common.{[], ◌∷◌, ◌++◌, length, set, get_or, drop
 use Rattle.std.specs.Prelude.{Option, Some, None, if◌then◌else◌, map, option_map, is_some, ◌&&◌}
 use Rattle.std.proofs.lemmas.List.{length-map}
 use Rattle.cjc_world.specs.Classes.{Member, method_of_class}
-use Rattle.cjc_world.specs.LowerClassFile.declared.tree.ClassTree.{ClassTree}
-use Rattle.cjc_world.specs.LowerClassFile.declared.tree.MethodTree.{MethodTree}
+use Rattle.cjc_world.specs.ClassFile.declared.tree.ClassTree.{ClassTree}
+use Rattle.cjc_world.specs.ClassFile.declared.tree.MethodTree.{MethodTree}
 use Rattle.cjc_world.specs.declared.class.Known.TheVariants as kinds
 use Rattle.cjc_tokens.specs.declared.slot.Slot.{Slot}
 use Rattle.cjc_tokens.specs.Members.{Signature, signature_of, is_exposed, is_virtual_by, is_shown, is_virtual}

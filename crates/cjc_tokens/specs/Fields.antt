@@ -2,8 +2,8 @@
 use Rattle.std.specs.Prelude.{ℕ, ◌+◌, ◌==◌, List, [], ◌∷◌, take, Bool, false, not, ◌&&◌, ◌||◌, nat_lt, sum_by, count_by}
 use Rattle.std.specs.Prelude.{is_some, if◌then◌else◌, Option, Some, None, codes}
 use Rattle.std.specs.Str.{bytes_eq}
-use Rattle.cjc_world.specs.LowerClassFile.declared.tree.FieldTree.{FieldTree}
-use Rattle.cjc_world.specs.LowerExportFile.Members.{may_be_constant}
+use Rattle.cjc_world.specs.ClassFile.declared.tree.FieldTree.{FieldTree}
+use Rattle.cjc_world.specs.ExportFile.Members.{may_be_constant}
 use Rattle.cjc_bytes.specs.AccessFlags.{is_static}
 use Rattle.cjc_tokens.specs.Members.{is_exposed}
 

@@ -10,7 +10,4 @@ pub mod SlotRows
 pub mod Working
 pub mod TokenLaws
 -- Definitions of lower crates, for those above.
-pub mod Bytes
-pub mod Fixpoint
-pub mod ClassFile
-pub mod ExportFile
+pub mod LowerFixpoint

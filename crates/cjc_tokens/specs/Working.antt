@@ -5,7 +5,7 @@ use Rattle.std.specs.Prelude.{false, not, ◌&&◌, ◌||◌, Option, Some, None
 use Rattle.std.specs.HashMap.{get_by}
 use Rattle.std.specs.List.{list_any}
 use Rattle.cjc_bytes.specs.declared.fault.MemberId.{MemberId}
-use Rattle.cjc_world.specs.LowerClassFile.declared.tree.ClassTree.{ClassTree}
+use Rattle.cjc_world.specs.ClassFile.declared.tree.ClassTree.{ClassTree}
 use Rattle.cjc_world.specs.declared.found.Found.{Found}
 use Rattle.cjc_world.specs.Files.{Files}
 use Rattle.cjc_bytes.specs.Breaks.{IsFirst}

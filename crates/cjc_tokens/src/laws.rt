@@ -1,7 +1,7 @@
 //! What tokens of the interfaces of a package mean, for every caller. Nothing here runs.
 
 ghost use Rattle.std.specs.Prelude.{◌≡◌, ◌<◌, ℕ, Bool, true, slice_get, Some};
-ghost use Rattle.cjc_world.specs.LowerClassFile.declared.tree.ClassTree.{ClassTree};
+ghost use Rattle.cjc_world.specs.ClassFile.declared.tree.ClassTree.{ClassTree};
 ghost use Rattle.cjc_bytes.specs.AccessFlags.{is_interface};
 ghost use Rattle.cjc_world.specs.Classes.{all_classes, declared};
 ghost use Rattle.cjc_world.specs.Files.{Files};

@@ -8,7 +8,7 @@ ghost use Rattle.cjc_world.specs.Supertypes.{supertypes, upwards};
 ghost use Rattle.cjc_world.specs.Working.Known.{class_of};
 ghost use Rattle.cjc_world.specs.Added.{added, named_by};
 ghost use Rattle.cjc_tokens.specs.Lines.{Declared, Imported, Line, line_at, line_in};
-ghost use Rattle.cjc_world.specs.LowerClassFile.declared.tree.ClassTree.{ClassTree as Tree};
+ghost use Rattle.cjc_world.specs.ClassFile.declared.tree.ClassTree.{ClassTree as Tree};
 ghost use Rattle.cjc_tokens.specs.declared.slot.Rows.{Rows as KeptRows};
 ghost use Rattle.cjc_tokens.specs.Working.{AreRowsOf, IsKept, IsToldOf, SameRows};
 

@@ -2,7 +2,7 @@
 //! token. Nothing here runs.
 ghost use Rattle.std.specs.Prelude.{◌≡◌, ◌<◌, ◌++◌, ℕ, Bool, List, true, false, if◌then◌else◌, slice_get, Some};
 ghost use Rattle.std.specs.List.{Contains};
-ghost use Rattle.cjc_world.specs.LowerClassFile.declared.tree.ClassTree.{ClassTree};
+ghost use Rattle.cjc_world.specs.ClassFile.declared.tree.ClassTree.{ClassTree};
 ghost use Rattle.cjc_bytes.specs.AccessFlags.{is_interface};
 ghost use Rattle.cjc_world.specs.Added.{asked_by, own_methods};
 ghost use Rattle.cjc_world.specs.Classes.{Class, Member, all_classes, class_named, declared};

@@ -17,9 +17,10 @@ pub mod Walks
 pub mod Among
 pub mod TypeLaws
 -- Definitions of lower crates, for those above.
-pub mod LowerRange
-pub mod LowerFixpoint
-pub mod LowerClassFile
-pub mod LowerBytecode
-pub mod LowerExportFile
-pub mod LowerWorld
+pub mod Bytes
+pub mod Range
+pub mod Fixpoint
+pub mod ClassFile
+pub mod Bytecode
+pub mod ExportFile
+pub mod World

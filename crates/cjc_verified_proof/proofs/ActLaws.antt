@@ -15,7 +15,7 @@ use Rattle.cjc_card_semantics.specs.Bytecode.Effects.{Letter, Reference, Byte, S
 use Rattle.cjc_card_semantics.specs.Bytecode.Meanings.{Use, Gets, Puts, GetsStatic, PutsStatic, Calls, Makes}
 use Rattle.cjc_card_semantics.specs.Bytecode.Meanings.{MakesReferences, Virtual, Special, Static}
 use Rattle.cjc_card_semantics.specs.Machine.Operations.{moved}
-use Rattle.cjc_card_acts.specs.Frames.declared.acts.Act.{Act}
+use Rattle.cjc_verify.specs.Frames.declared.acts.Act.{Act}
 use Rattle.cjc_card_acts.specs.CardTypes.{MemberType, ValueType, numbers_type}
 use Rattle.cjc_card_acts.specs.Rows.{Row, Pushes, Loads, Stores, Increases, Pops, Copies, CopiesBelow, Swaps}
 use Rattle.cjc_card_acts.specs.Rows.{Calculates}

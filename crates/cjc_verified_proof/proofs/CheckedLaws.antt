@@ -10,8 +10,8 @@ use Rattle.cjc_check_rules.specs.ClassRefs.{pool_count_at}
 use Rattle.cjc_check_rules.specs.Complete.{array_size, described_size}
 use Rattle.cjc_check_rules.specs.Described.{all_ascend, all_starts, classes_in_order, types_in_class, types_in_pool}
 use Rattle.cjc_check_rules.specs.Statics.{in_array}
-use Rattle.cjc_script.specs.declared.value.Value.{Value}
-use Rattle.cjc_verify_proof.specs.Types.declared.cell.Cell.{Cell}
+use Rattle.cjc_card_semantics.specs.Script.declared.value.Value.{Value}
+use Rattle.cjc_intervals.specs.Types.declared.cell.Cell.{Cell}
 use Rattle.cjc_card_semantics.specs.Bytecode.Effects.{Memory, effect}
 use Rattle.cjc_card_semantics.specs.Bytecode.Meanings.{Makes, Use}
 use Rattle.cjc_card_semantics.specs.Machine.Classes.{Class, Field}
@@ -21,7 +21,7 @@ use Rattle.cjc_card_semantics.specs.Machine.Operations as machine
 use Rattle.cjc_card_semantics.specs.Machine.Statics.{Image, first_memory}
 use Rattle.cjc_card_semantics.specs.Machine.ByToken.{classes}
 use Rattle.cjc_card_acts.specs.CardTypes.{MemberType, is_type_of}
-use Rattle.cjc_card_acts.specs.Frames.Acts.{stack_behind}
+use Rattle.cjc_verify.specs.Frames.Acts.{stack_behind}
 use Rattle.cjc_components.specs.Paired.Naming.{part_of}
 use Rattle.cjc_verify.specs.Instructions.{using}
 use Rattle.cjc_verify.specs.Named.{entry_of, entry_type, names_unmade}

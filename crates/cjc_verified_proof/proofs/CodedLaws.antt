@@ -3,8 +3,8 @@ use Rattle.std.proofs.Common.{◌≡◌, ℕ, Bool, not, [], length, Some, sym, 
 use Rattle.std.specs.Prelude.{nat_lt, None, Contains}
 use Rattle.cjc_check_rules.specs.Described.{all_starts, classes_in_order}
 use Rattle.cjc_bytes.specs.declared.fault.MemberId.{MemberId}
-use Rattle.cjc_script.specs.declared.script.Script.{Script}
-use Rattle.cjc_script.specs.declared.report.Outcome.TheVariants.{Stuck}
+use Rattle.cjc_card_semantics.specs.Script.declared.script.Script.{Script}
+use Rattle.cjc_card_semantics.specs.Script.declared.report.Outcome.TheVariants.{Stuck}
 use Rattle.cjc_card_semantics.specs.Bytecode.Machine.{Start}
 use Rattle.cjc_card_semantics.specs.Machine.ByToken.{run}
 use Rattle.cjc_card_semantics.specs.Machine.Calls.{called}

@@ -10,9 +10,9 @@ use Rattle.std.proofs.lemmas.Bool.Decides.{nat_tests}
 use Rattle.std.proofs.lemmas.Option.{slice_get-map}
 use Rattle.cjc_bytes.specs.AccessFlags.{is_interface}
 use Rattle.cjc_check_rules.specs.Classes.{first_interface}
-use Rattle.cjc_tokens.specs.ExportFile.declared.tree.ExportClass.{ExportClass}
-use Rattle.cjc_tokens.specs.ExportFile.declared.tree.ExportMethod.{ExportMethod}
-use Rattle.cjc_tokens.specs.ExportFile.Supers.{virtual_method}
+use Rattle.cjc_world.specs.ExportFile.declared.tree.ExportClass.{ExportClass}
+use Rattle.cjc_world.specs.ExportFile.declared.tree.ExportMethod.{ExportMethod}
+use Rattle.cjc_world.specs.ExportFile.Supers.{virtual_method}
 use Rattle.cjc_check_rules.specs.Spots.{beside, in_info}
 use Rattle.cjc_check_rules.specs.declared.spot.ComponentPlace.{ComponentPlace}
 use Rattle.cjc_world.specs.declared.found.Found.{Found}
@@ -28,11 +28,11 @@ use Rattle.cjc_tokens.specs.Slots.{hidden_row, hidden_slots, implementing, imple
 use Rattle.cjc_tokens.specs.Slots.{token}
 use Rattle.cjc_tokens.proofs.Held.{here-has_slot, token-slot}
 use Rattle.cjc_tokens.proofs.Walks.{supertypes-known}
-use Rattle.cjc_components.specs.VTable.Dispatch.{own_by_token}
-use Rattle.cjc_components.specs.VTable.Dispatch as tables
-use Rattle.cjc_components.specs.VTable.Laws.{Under, below, itself}
-use Rattle.cjc_components.specs.VTable.Naming.{named}
-use Rattle.cjc_components.specs.VTable.Tables.{base, entries, methods, of_package, table_of}
+use Rattle.cjc_token_proof.specs.VTable.Dispatch.{own_by_token}
+use Rattle.cjc_token_proof.specs.VTable.Dispatch as tables
+use Rattle.cjc_token_proof.specs.VTable.Laws.{Under, below, itself}
+use Rattle.cjc_token_proof.specs.VTable.Naming.{named}
+use Rattle.cjc_token_proof.specs.VTable.Tables.{base, entries, methods, of_package, table_of}
 use Rattle.cjc_components.proofs.VTableCalls.{token-some}
 use Rattle.cjc_components.proofs.VTableOnce.{slots-once}
 use Rattle.cjc_components.proofs.VTableSlotNames.{implementing-named, seen-line}
@@ -44,7 +44,7 @@ use Rattle.cjc_card_semantics.specs.Machine.Dispatch.{exported_line}
 use Rattle.cjc_card_semantics.specs.Machine.Dispatch.{in_files}
 use Rattle.cjc_card_semantics.specs.Machine.Dispatch.{outward, tower}
 use Rattle.cjc_card_semantics.specs.Machine.Loaded.{Loaded}
-use Rattle.cjc_components.specs.NCode.Lowering.Naming.{Naming}
+use Rattle.cjc_token_proof.specs.NCode.Lowering.Naming.{Naming}
 use Rattle.cjc_components.specs.Package.{Package}
 use Rattle.cjc_verify.specs.Infos.{abstract_spots, all_tokens, has_abstract_method, infos}
 use Rattle.cjc_verify.specs.Named.{is_abstract_selection, is_unmade}

@@ -13,8 +13,8 @@ use Rattle.cjc_check_rules.specs.Spots.{beside, in_info, placed, starts, unless}
 use Rattle.cjc_check_rules.specs.Classes.{first_interface}
 use Rattle.cjc_check_rules.specs.ClassRefs.{maps_begin}
 use Rattle.cjc_check_rules.specs.Complete.{Complete, map_size}
-use Rattle.cjc_tokens.specs.ClassFile.declared.tree.ClassTree.{ClassTree}
-use Rattle.cjc_tokens.specs.ClassFile.declared.tree.FieldTree.{FieldTree}
+use Rattle.cjc_world.specs.ClassFile.declared.tree.ClassTree.{ClassTree}
+use Rattle.cjc_world.specs.ClassFile.declared.tree.FieldTree.{FieldTree}
 use Rattle.cjc_world.specs.declared.image.StaticImage.{StaticImage}
 use Rattle.cjc_world.specs.Classes.{Class, Member, all_classes, declared, field_of_class}
 use Rattle.cjc_world.specs.Files.{Files}
@@ -23,9 +23,10 @@ use Rattle.cjc_tokens.specs.Fields.{instance_cells, instance_field_token, instan
 use Rattle.cjc_tokens.specs.Fields.{is_reference}
 use Rattle.cjc_tokens.specs.Tokens.{assigned, field_of_token, has_token}
 use Rattle.cjc_tokens.specs.Tokens as tokens
-use Rattle.cjc_script.specs.Sorts.{Booleans, Bytes, Shorts, Ints, OfClass, OfNumbers, OfReferences, Sort}
-use Rattle.cjc_script.specs.Sorts.{Boolean, Byte, Short, Int, Reference, NoValue, Signature, field_sort, result_by}
-use Rattle.cjc_script.specs.Sorts.{signature_by, signature_of, sort_of}
+use Rattle.cjc_card_semantics.specs.Script.Sorts.{Booleans, Bytes, Shorts, Ints, OfClass, OfNumbers, OfReferences, Sort}
+use Rattle.cjc_card_semantics.specs.Script.Sorts.{Boolean, Byte, Short, Int, Reference, NoValue, Signature, field_sort}
+use Rattle.cjc_card_semantics.specs.Script.Sorts.{result_by}
+use Rattle.cjc_card_semantics.specs.Script.Sorts.{signature_by, signature_of, sort_of}
 use Rattle.cjc_card_semantics.specs.Machine.Classes.{Own, External, Info, IsInterface, IsClass, info_of, info_size}
 use Rattle.cjc_card_semantics.specs.Machine.Classes.{is_reference_token, number_from}
 use Rattle.cjc_card_semantics.specs.Machine.Classes as card
@@ -33,7 +34,7 @@ use Rattle.cjc_card_acts.specs.CardTypes.{ValueType, types_in}
 use Rattle.cjc_components.specs.Class.{fields_in, fields_of, first_reference_token, info_flags, reference_count}
 use Rattle.cjc_components.specs.Class.{superclass}
 use Rattle.cjc_components.specs.Types.{nibbles_by, sort_nibbles}
-use Rattle.cjc_components.specs.VTable.Tables.{table_of}
+use Rattle.cjc_token_proof.specs.VTable.Tables.{table_of}
 use Rattle.cjc_token_proof.specs.ByToken.Objects.{is_reference as is_reference_sort}
 use Rattle.cjc_token_proof.specs.Tables.Sound.{IsSound, AreTyped, AreFieldDescs, IsTyped, IsFieldDesc}
 use Rattle.cjc_verify.specs.Infos.{class_spots, info_spots, infos, interface_spots, map_interface}

@@ -12,7 +12,7 @@ use Rattle.cjc_capread.specs.declared.tree.PoolEntry.TheVariants.{Classref, Inst
 use Rattle.cjc_check_rules.specs.Complete.{Complete}
 use Rattle.cjc_world.specs.declared.image.StaticImage.{StaticImage}
 use Rattle.cjc_world.specs.Files.{Files}
-use Rattle.cjc_script.specs.Sorts.{OfClass}
+use Rattle.cjc_card_semantics.specs.Script.Sorts.{OfClass}
 use Rattle.cjc_card_semantics.specs.Bytecode.Effects.{Get, GetStatic, Letter, New, Put, PutStatic}
 use Rattle.cjc_card_semantics.specs.Bytecode.Meanings.{Gets, GetsStatic, Makes, Puts, PutsStatic, Use}
 use Rattle.cjc_card_semantics.specs.Machine.Loaded.{Import, Loaded, OfFile}
@@ -22,10 +22,10 @@ use Rattle.cjc_card_semantics.specs.Machine.Classes.{is_there}
 use Rattle.cjc_card_semantics.specs.Machine.Operations.{Resolved, or_undone}
 use Rattle.cjc_card_semantics.specs.Machine.Operations as machine
 use Rattle.cjc_card_semantics.specs.Machine.Statics.{StaticCell}
-use Rattle.cjc_card_acts.specs.Frames.declared.acts.Act.{Act}
-use Rattle.cjc_card_acts.specs.Frames.declared.acts.Need.{Need}
-use Rattle.cjc_card_acts.specs.Frames.declared.acts.Need.TheVariants.{OfType}
-use Rattle.cjc_card_acts.specs.Frames.declared.acts.Given.TheVariants as given
+use Rattle.cjc_verify.specs.Frames.declared.acts.Act.{Act}
+use Rattle.cjc_verify.specs.Frames.declared.acts.Need.{Need}
+use Rattle.cjc_verify.specs.Frames.declared.acts.Need.TheVariants.{OfType}
+use Rattle.cjc_verify.specs.Frames.declared.acts.Given.TheVariants as given
 use Rattle.cjc_card_acts.specs.CardTypes.{MemberType, ValueType, is_moved_by, needs_of, shape_by, words}
 use Rattle.cjc_card_acts.specs.Rows.{idle, reading}
 use Rattle.cjc_components.specs.Paired.Naming.{files_from}

@@ -18,11 +18,11 @@ use Rattle.cjc_capread.specs.declared.tree.PoolEntry.{PoolEntry}
 use Rattle.cjc_capread.specs.declared.tree.PoolEntry.TheVariants.{SuperMethodref, VirtualMethodref}
 use Rattle.cjc_check_rules.specs.Classes.{classes_at, is_own_class}
 use Rattle.cjc_check_rules.specs.Classes as check
-use Rattle.cjc_tokens.specs.ExportFile.declared.tree.ExportClass.{ExportClass}
-use Rattle.cjc_tokens.specs.ExportFile.declared.tree.ExportMethod.{ExportMethod}
-use Rattle.cjc_tokens.specs.ExportFile.declared.tree.ExportTree.{ExportTree}
-use Rattle.cjc_tokens.specs.ExportFile.Supers.{virtual_method}
-use Rattle.cjc_tokens.specs.ExportFile.Supers as exports
+use Rattle.cjc_world.specs.ExportFile.declared.tree.ExportClass.{ExportClass}
+use Rattle.cjc_world.specs.ExportFile.declared.tree.ExportMethod.{ExportMethod}
+use Rattle.cjc_world.specs.ExportFile.declared.tree.ExportTree.{ExportTree}
+use Rattle.cjc_world.specs.ExportFile.Supers.{virtual_method}
+use Rattle.cjc_world.specs.ExportFile.Supers as exports
 use Rattle.cjc_check_rules.specs.Members.{base_of, has_token, has_virtual, place_of, superclass_has, table_of}
 use Rattle.cjc_check_rules.specs.PoolEntries.{names_member}
 use Rattle.cjc_check_rules.specs.Spots.{Placed, begins, in_info, item_at, unless}
@@ -44,16 +44,16 @@ use Rattle.cjc_tokens.proofs.Facts.{same-true}
 use Rattle.cjc_tokens.proofs.Held.{here-has_slot, token-slot}
 use Rattle.cjc_tokens.proofs.Means.{kept-at}
 use Rattle.cjc_tokens.proofs.Walks.{supertypes-known}
-use Rattle.cjc_components.specs.VTable.Calls.{selects}
-use Rattle.cjc_components.specs.VTable.Dispatch as tables
-use Rattle.cjc_components.specs.VTable.Dispatch.{at_index}
-use Rattle.cjc_components.specs.VTable.Laws.{Under, below, itself}
-use Rattle.cjc_components.specs.VTable.Naming.{named}
-use Rattle.cjc_components.specs.VTable.declared.table.InterfaceMap.{InterfaceMap}
+use Rattle.cjc_token_proof.specs.VTable.Calls.{selects}
+use Rattle.cjc_token_proof.specs.VTable.Dispatch as tables
+use Rattle.cjc_token_proof.specs.VTable.Dispatch.{at_index}
+use Rattle.cjc_token_proof.specs.VTable.Laws.{Under, below, itself}
+use Rattle.cjc_token_proof.specs.VTable.Naming.{named}
+use Rattle.cjc_token_proof.specs.VTable.declared.table.InterfaceMap.{InterfaceMap}
 use Rattle.cjc_components.proofs.VTableAsked.{has-here, method-asked, named-among}
 use Rattle.cjc_components.proofs.VTableCalls.{token-some}
 use Rattle.cjc_components.proofs.VTableOnce.{hidden_slots-once}
-use Rattle.cjc_script.specs.Sorts.{Shape, OfClass}
+use Rattle.cjc_card_semantics.specs.Script.Sorts.{Shape, OfClass}
 use Rattle.cjc_card_semantics.specs.Machine.Calls.{dispatched_on}
 use Rattle.cjc_card_semantics.specs.Machine.Classes.{External, Info, IsClass, IsInterface, Own, class_of, external}
 use Rattle.cjc_card_semantics.specs.Machine.Classes.{is_of}
@@ -67,7 +67,7 @@ use Rattle.cjc_card_semantics.specs.Machine.Loaded.{ClassNames, Loaded, MethodNa
 use Rattle.cjc_card_semantics.specs.Machine.Operations.{token_of}
 use Rattle.cjc_card_acts.specs.CardTypes.{both_of}
 use Rattle.cjc_components.specs.Class.{superclass}
-use Rattle.cjc_components.specs.NCode.Lowering.Naming.{Naming}
+use Rattle.cjc_token_proof.specs.NCode.Lowering.Naming.{Naming}
 use Rattle.cjc_components.specs.Package.{Package}
 use Rattle.cjc_components.specs.Paired.Naming.{class_names}
 use Rattle.cjc_token_proof.specs.ByToken.Above.{IsAtOrAbove}
@@ -539,7 +539,7 @@ module _ (c : Checked) (ok : IsChecked c) (has : HasCode c) (keep : KeepsCalls c
             let said = outside_token (reverse (classes_at (let v = c.components in v.class))) trees import class token
             (member_there k (VirtualMethodref (Outside import class) token) is) in
             let fine = ap (λ o. Rattle.cjc_check_rules.specs.Members.class_has trees o token) (sym f) ∙ said in
-            let two = and_true (not (is_interface x.flags)) (Rattle.cjc_tokens.specs.ExportFile.Supers.has_virtual
+            let two = and_true (not (is_interface x.flags)) (Rattle.cjc_world.specs.ExportFile.Supers.has_virtual
             (exports.classes_of trees) token x) fine in
             let plain = Rattle.cjc_bytes.proofs.Bools.not_true (is_interface x.flags) two.0 in
             let low = given_low x.name r.0 x r.1 plain token m g in
@@ -873,7 +873,7 @@ module _ (c : Checked) (ok : IsChecked c) (has : HasCode c) (keep : KeepsCalls c
                 kind desc
                 (of_file o token)) (sym f) (subst (λ o. Answered kind desc (outward x.name o NotFound)) (sym g) (
                   selecting.of_file (record { class = x.name; name = m.name; desc = m.desc }) sig.0 same (ap
-                      Rattle.cjc_script.specs.Sorts.signature_of (sym same) ∙ sig.1),
+                      Rattle.cjc_card_semantics.specs.Script.Sorts.signature_of (sym same) ∙ sig.1),
                   tt,
                   tt,
                 )) in

@@ -16,18 +16,18 @@ use Rattle.cjc_capread.specs.declared.tree.PoolEntry.TheVariants.{VirtualMethodr
 use Rattle.cjc_capread.specs.declared.tree.PoolEntry.TheVariants.{StaticFieldref, StaticMethodref}
 use Rattle.cjc_capread.specs.declared.tree.StaticRef.{StaticRef}
 use Rattle.cjc_capread.specs.declared.tree.StaticRef.TheVariants.{Inside, Outside}
-use Rattle.cjc_tokens.specs.ExportFile.Members.{is_unbound, same_bool}
-use Rattle.cjc_tokens.specs.ExportFile.Writable.{ClassFits, EachAfter, IsWritable, MethodFits, MethodStands}
-use Rattle.cjc_tokens.specs.ExportFile.declared.tree.ExportClass.{ExportClass}
-use Rattle.cjc_tokens.specs.ExportFile.declared.tree.ExportMethod.{ExportMethod}
-use Rattle.cjc_tokens.specs.ExportFile.declared.tree.ExportTree.{ExportTree}
+use Rattle.cjc_world.specs.ExportFile.Members.{is_unbound, same_bool}
+use Rattle.cjc_world.specs.ExportFile.Writable.{ClassFits, EachAfter, IsWritable, MethodFits, MethodStands}
+use Rattle.cjc_world.specs.ExportFile.declared.tree.ExportClass.{ExportClass}
+use Rattle.cjc_world.specs.ExportFile.declared.tree.ExportMethod.{ExportMethod}
+use Rattle.cjc_world.specs.ExportFile.declared.tree.ExportTree.{ExportTree}
 use Rattle.cjc_check_rules.specs.Spots.{in_info, unless}
 use Rattle.cjc_check_rules.specs.Classes.{class_with, imported}
 use Rattle.cjc_check_rules.specs.Complete.{Complete}
 use Rattle.cjc_check_rules.specs.PoolEntries.{names_member, pool_spots}
 use Rattle.cjc_world.specs.declared.image.StaticImage.{StaticImage}
 use Rattle.cjc_world.specs.Files.{Files}
-use Rattle.cjc_script.specs.Sorts.{Signature, result_by, signature_by, signature_of, sort_of}
+use Rattle.cjc_card_semantics.specs.Script.Sorts.{Signature, result_by, signature_by, signature_of, sort_of}
 use Rattle.cjc_card_semantics.specs.Bytecode.Effects.{Call}
 use Rattle.cjc_card_semantics.specs.Bytecode.Meanings.{Mode, Special, Static, Virtual}
 use Rattle.cjc_card_semantics.specs.Bytecode.Meanings as meanings

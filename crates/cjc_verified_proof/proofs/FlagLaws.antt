@@ -6,17 +6,17 @@ use Rattle.cjc_bytes.specs.AccessFlags.{acc_transient, acc_volatile, has, is_int
 use Rattle.cjc_bytes.specs.Breaks.{Break, RulePlace, at, each, each_from}
 use Rattle.cjc_bytes.specs.Order.{FilePlace, file_of}
 use Rattle.cjc_bytes.specs.declared.settings.Settings.{Settings}
-use Rattle.cjc_card_acts.specs.Bytecode.declared.method_code.MethodCode.{MethodCode}
-use Rattle.cjc_tokens.specs.ClassFile.declared.tree.ClassTree.{ClassTree}
-use Rattle.cjc_tokens.specs.ClassFile.declared.tree.FieldTree.{FieldTree}
+use Rattle.cjc_intervals.specs.Bytecode.declared.method_code.MethodCode.{MethodCode}
+use Rattle.cjc_world.specs.ClassFile.declared.tree.ClassTree.{ClassTree}
+use Rattle.cjc_world.specs.ClassFile.declared.tree.FieldTree.{FieldTree}
 use Rattle.cjc_world.specs.Files.{Files}
 use Rattle.cjc_tokens.specs.Fields.{is_instance}
-use Rattle.cjc_components.specs.Subset.Checks.{check_breaks, class_breaks, code_breaks, field_breaks, list_breaks}
-use Rattle.cjc_components.specs.Subset.Checks.{method_breaks, own_breaks}
-use Rattle.cjc_components.specs.Subset.Flags.{has_two_accesses, is_unfit_field}
-use Rattle.cjc_components.specs.Subset.Overriding.{overriding_breaks}
-use Rattle.cjc_components.specs.Subset.Places.{at_field}
-use Rattle.cjc_components.specs.Subset.Types.{is_int_desc, is_unsupported_desc}
+use Rattle.cjc_verify.specs.Subset.Checks.{check_breaks, class_breaks, code_breaks, field_breaks, list_breaks}
+use Rattle.cjc_verify.specs.Subset.Checks.{method_breaks, own_breaks}
+use Rattle.cjc_verify.specs.Subset.Flags.{has_two_accesses, is_unfit_field}
+use Rattle.cjc_verify.specs.Subset.Overriding.{overriding_breaks}
+use Rattle.cjc_verify.specs.Subset.Places.{at_field}
+use Rattle.cjc_verify.specs.Subset.Types.{is_int_desc, is_unsupported_desc}
 use Rattle.cjc_verified_proof.specs.PackageTypes.{StaticInInterfaces}
 use Rattle.cjc_bytes.proofs.Lists.{none_left, none_right}
 use Rattle.cjc_bytes.proofs.Plain.{same_some}

@@ -11,11 +11,11 @@ use Rattle.cjc_capread.specs.declared.tree.MethodDescriptor.{MethodDescriptor}
 use Rattle.cjc_check_rules.specs.Codes.{whole_spots}
 use Rattle.cjc_check_rules.specs.Complete.{Complete}
 use Rattle.cjc_check_rules.specs.Described.{all_starts, classes_in_order}
-use Rattle.cjc_components.specs.List.Listed.{ListTree}
-use Rattle.cjc_tokens.specs.ExportFile.Supers as exports
-use Rattle.cjc_tokens.specs.ExportFile.Supers.{virtual_method}
-use Rattle.cjc_tokens.specs.ExportFile.declared.tree.ExportClass.{ExportClass}
-use Rattle.cjc_tokens.specs.ExportFile.declared.tree.ExportMethod.{ExportMethod}
+use Rattle.cjc_verify.specs.List.Listed.{ListTree}
+use Rattle.cjc_world.specs.ExportFile.Supers as exports
+use Rattle.cjc_world.specs.ExportFile.Supers.{virtual_method}
+use Rattle.cjc_world.specs.ExportFile.declared.tree.ExportClass.{ExportClass}
+use Rattle.cjc_world.specs.ExportFile.declared.tree.ExportMethod.{ExportMethod}
 use Rattle.cjc_world.specs.declared.found.Found.{Found}
 use Rattle.cjc_world.specs.declared.image.StaticImage.{StaticImage}
 use Rattle.cjc_world.specs.Added.{added}
@@ -30,9 +30,9 @@ use Rattle.cjc_tokens.specs.Lines.{Declared, line_in, line_of}
 use Rattle.cjc_tokens.specs.Members.{In, Signature, all_methods, is_constructor, is_hidden, is_initialiser, is_shown}
 use Rattle.cjc_tokens.specs.Members.{is_virtual, signature_of}
 use Rattle.cjc_tokens.specs.Slots.{hidden_slots, slots, token}
-use Rattle.cjc_components.specs.VTable.Calls.{any_method, finds_hidden, finds_shown, passes}
+use Rattle.cjc_token_proof.specs.VTable.Calls.{any_method, finds_hidden, finds_shown, passes}
 use Rattle.cjc_tokens.specs.Members.{chosen}
-use Rattle.cjc_components.specs.VTable.Laws.{Under, below, itself}
+use Rattle.cjc_token_proof.specs.VTable.Laws.{Under, below, itself}
 use Rattle.cjc_card_semantics.specs.Machine.Calls.{acc_constructor, described_token, found_token, listed_token}
 use Rattle.cjc_card_semantics.specs.Machine.Calls.{token_in_files, token_or}
 use Rattle.cjc_card_semantics.specs.Machine.Calls as machine
@@ -45,7 +45,7 @@ use Rattle.cjc_components.specs.Descriptor.{no_member}
 use Rattle.cjc_components.specs.Class.{interface_entry}
 use Rattle.cjc_components.specs.Methods.{method_offset as written_offset}
 use Rattle.cjc_components.specs.Names.{class_at}
-use Rattle.cjc_components.specs.NCode.Lowering.Naming.{Naming}
+use Rattle.cjc_token_proof.specs.NCode.Lowering.Naming.{Naming}
 use Rattle.cjc_components.specs.Package.{Package}
 use Rattle.cjc_components.specs.Paired.Pairs.{ArePaired}
 use Rattle.cjc_token_proof.specs.Calls.Dispatching.{SaysTower, of_file, of_package}

@@ -21,7 +21,7 @@ use Rattle.cjc_tokens.specs.Members.{is_virtual}
 use Rattle.cjc_tokens.specs.Members.{signature_of}
 use Rattle.cjc_tokens.specs.Slots.{got, implementing, implementing_hidden, own}
 use Rattle.cjc_tokens.proofs.Facts.{same-true}
-use Rattle.cjc_components.specs.VTable.Laws.{Under, below, itself, selection}
+use Rattle.cjc_token_proof.specs.VTable.Laws.{Under, below, itself, selection}
 use Rattle.cjc_components.specs.Descriptor.{as_added, methods_with_added}
 use Rattle.cjc_components.specs.Package.{Package, world}
 use Rattle.cjc_bytes.proofs.Bools.{and_true}

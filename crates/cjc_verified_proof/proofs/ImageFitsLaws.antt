@@ -20,10 +20,11 @@ use Rattle.cjc_world.specs.declared.image.ValueCell.{ValueCell}
 use Rattle.cjc_world.specs.declared.image.StaticImage.{StaticImage}
 use Rattle.cjc_world.specs.Classes.{all_classes}
 use Rattle.cjc_world.specs.Files.{Files}
-use Rattle.cjc_components.specs.NCode.PoolOrder.{same_member}
-use Rattle.cjc_script.specs.Sorts.{Element, Booleans, Bytes, Shorts, Ints, Shape, OfClass, OfNumbers, OfReferences}
-use Rattle.cjc_script.specs.Sorts.{Sort}
-use Rattle.cjc_script.specs.Sorts.{Boolean, Byte, Short, Int, Reference, NoValue, field_sort}
+use Rattle.cjc_token_proof.specs.NCode.PoolOrder.{same_member}
+use Rattle.cjc_card_semantics.specs.Script.Sorts.{Element, Booleans, Bytes, Shorts, Ints, Shape, OfClass, OfNumbers}
+use Rattle.cjc_card_semantics.specs.Script.Sorts.{OfReferences}
+use Rattle.cjc_card_semantics.specs.Script.Sorts.{Sort}
+use Rattle.cjc_card_semantics.specs.Script.Sorts.{Boolean, Byte, Short, Int, Reference, NoValue, field_sort}
 use Rattle.cjc_card_semantics.specs.Machine.Loaded.{Loaded}
 use Rattle.cjc_card_semantics.specs.Machine.Statics.{StaticCell, element_of}
 use Rattle.cjc_card_acts.specs.CardTypes.{ValueType, shape_by, types_in}

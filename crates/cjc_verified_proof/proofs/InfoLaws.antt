@@ -26,9 +26,9 @@ use Rattle.cjc_components.specs.Class.{fields_of, first_reference_token, impleme
 use Rattle.cjc_components.specs.Class.{reference_count, superclass}
 use Rattle.cjc_components.specs.Paired.Pairs.{ArePaired, cell_spots, count_spots, head_of as first_of, info_count}
 use Rattle.cjc_components.specs.Paired.Pairs.{method_spots as paired_methods}
-use Rattle.cjc_components.specs.VTable.Tables.{table_of}
-use Rattle.cjc_components.specs.VTable.declared.table.ClassTable.{ClassTable}
-use Rattle.cjc_components.specs.VTable.declared.table.InterfaceMap.{InterfaceMap}
+use Rattle.cjc_token_proof.specs.VTable.Tables.{table_of}
+use Rattle.cjc_token_proof.specs.VTable.declared.table.ClassTable.{ClassTable}
+use Rattle.cjc_token_proof.specs.VTable.declared.table.InterfaceMap.{InterfaceMap}
 use Rattle.cjc_token_proof.specs.Tables.Sound.{IsSound}
 use Rattle.cjc_verify.specs.Described.{all_array_spots, described_spots}
 use Rattle.cjc_verify.specs.Infos.{all_abstract_spots, all_info_spots, all_table_spots, class_spots, entries_differ}

@@ -6,9 +6,9 @@ use Rattle.cjc_bytes.specs.declared.fault.MemberId.{MemberId}
 use Rattle.cjc_bytes.proofs.Bools.{and_true}
 use Rattle.cjc_bytes.proofs.Plain.{same_some}
 use Rattle.cjc_bytes.specs.AccessFlags.{is_interface}
-use Rattle.cjc_components.specs.NCode.Lowering.Naming.{Naming}
+use Rattle.cjc_token_proof.specs.NCode.Lowering.Naming.{Naming}
 use Rattle.cjc_components.specs.Package.{Package, world}
-use Rattle.cjc_script.specs.Sorts.{Shape, OfClass}
+use Rattle.cjc_card_semantics.specs.Script.Sorts.{Shape, OfClass}
 use Rattle.cjc_card_semantics.specs.Machine.ByToken.{run}
 use Rattle.cjc_card_semantics.specs.Machine.Calls.{dispatched_on, found_token}
 use Rattle.cjc_card_semantics.specs.Machine.Classes.{depth, shape_class}
@@ -16,8 +16,8 @@ use Rattle.cjc_card_semantics.specs.Machine.Classes as card
 use Rattle.cjc_card_semantics.specs.Machine.Dispatch.{Token, dispatched, dispatched_open, tower}
 use Rattle.cjc_card_semantics.specs.Machine.Loaded.{Loaded}
 use Rattle.cjc_card_acts.specs.CardTypes.{both_of}
-use Rattle.cjc_script.specs.declared.report.Outcome.TheVariants.{Stuck}
-use Rattle.cjc_script.specs.declared.script.Script.{Script}
+use Rattle.cjc_card_semantics.specs.Script.declared.report.Outcome.TheVariants.{Stuck}
+use Rattle.cjc_card_semantics.specs.Script.declared.script.Script.{Script}
 use Rattle.cjc_tokens.specs.Members.{Signature, is_exposed, is_virtual, signature_of}
 use Rattle.cjc_token_proof.specs.Calls.Selecting.{signature}
 use Rattle.cjc_token_proof.specs.WrittenCalls.Calls.{KeepsSubtypes}
@@ -31,8 +31,8 @@ use Rattle.cjc_verify.specs.Named.{is_unmade}
 use Rattle.cjc_verify.specs.Pairs.{Pair}
 use Rattle.cjc_verify_proof.specs.Frames.{Program}
 use Rattle.cjc_verify_proof.specs.Turns.{IsMade}
-use Rattle.cjc_components.specs.VTable.Laws.{Under, itself, selection}
-use Rattle.cjc_tokens.specs.ExportFile.declared.tree.ExportClass.{ExportClass}
+use Rattle.cjc_token_proof.specs.VTable.Laws.{Under, itself, selection}
+use Rattle.cjc_world.specs.ExportFile.declared.tree.ExportClass.{ExportClass}
 use Rattle.cjc_world.specs.Classes.{Class, all_classes, class_named, imported, method_of_export}
 use Rattle.cjc_verified_proof.specs.Checked.{Checked, HasCode, IsChecked, pair}
 use Rattle.cjc_verified_proof.specs.Dispatching.{package_of}

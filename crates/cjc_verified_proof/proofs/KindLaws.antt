@@ -8,9 +8,9 @@ use Rattle.std.specs.Prelude.{position}
 use Rattle.std.specs.Prelude.{unwrap_or}
 use Rattle.cjc_bytes.specs.AccessFlags.{is_interface}
 use Rattle.cjc_check_rules.specs.Complete.{Complete}
-use Rattle.cjc_tokens.specs.ExportFile.declared.tree.ExportClass.{ExportClass}
-use Rattle.cjc_tokens.specs.ExportFile.declared.tree.ExportTree.{ExportTree}
-use Rattle.cjc_components.specs.List.Listed.{ListTree}
+use Rattle.cjc_world.specs.ExportFile.declared.tree.ExportClass.{ExportClass}
+use Rattle.cjc_world.specs.ExportFile.declared.tree.ExportTree.{ExportTree}
+use Rattle.cjc_verify.specs.List.Listed.{ListTree}
 use Rattle.cjc_world.specs.declared.image.StaticImage.{StaticImage}
 use Rattle.cjc_world.specs.Classes.{Class, all_classes, class_named, imported}
 use Rattle.cjc_world.specs.Files.{Files}
@@ -19,16 +19,16 @@ use Rattle.cjc_world.specs.Order.{class_order}
 use Rattle.cjc_world.specs.Subtype.{is_subclass, is_subtype, starts as begins}
 use Rattle.cjc_world.specs.Supertypes.{Above, Lists, after, directly, foremost, onwards, stands, supertypes}
 use Rattle.cjc_world.proofs.Subtypes.{reaches}
-use Rattle.cjc_components.specs.VTable.Laws.{Under, below, itself}
-use Rattle.cjc_components.specs.Subset.Members.{imports}
+use Rattle.cjc_token_proof.specs.VTable.Laws.{Under, below, itself}
+use Rattle.cjc_verify.specs.Subset.Members.{imports}
 use Rattle.cjc_components.proofs.VTableFiled.{get-has}
-use Rattle.cjc_script.specs.Sorts.{Shape, OfClass, OfNumbers, OfReferences}
+use Rattle.cjc_card_semantics.specs.Script.Sorts.{Shape, OfClass, OfNumbers, OfReferences}
 use Rattle.cjc_card_semantics.specs.Machine.Classes.{Own, External, external, external_from, infos, is_interface_file}
 use Rattle.cjc_card_semantics.specs.Machine.Classes.{is_kind_of, is_of, object_class, or_else, shape_class, with_token}
 use Rattle.cjc_card_semantics.specs.Machine.Classes as card
 use Rattle.cjc_card_semantics.specs.Machine.Loaded.{Loaded}
 use Rattle.cjc_card_acts.specs.CardTypes.{both_of}
-use Rattle.cjc_components.specs.NCode.Lowering.Naming.{Naming}
+use Rattle.cjc_token_proof.specs.NCode.Lowering.Naming.{Naming}
 use Rattle.cjc_components.specs.Package.{Package}
 use Rattle.cjc_components.specs.Paired.Pairs.{ArePaired}
 use Rattle.cjc_token_proof.specs.ByToken.Supers.{KindsAgree, SaysKinds}

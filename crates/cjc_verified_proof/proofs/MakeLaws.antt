@@ -9,16 +9,16 @@ use Rattle.cjc_capread.specs.declared.tree.ClassRef.{ClassRef}
 use Rattle.cjc_capread.specs.declared.tree.ClassRef.TheVariants.{Inside, Outside}
 use Rattle.cjc_capread.specs.declared.tree.PoolEntry.TheVariants.{Classref}
 use Rattle.cjc_capread.specs.Parts as parts
-use Rattle.cjc_tokens.specs.ExportFile.declared.tree.ExportClass.{ExportClass}
-use Rattle.cjc_tokens.specs.ExportFile.declared.tree.ExportTree.{ExportTree}
+use Rattle.cjc_world.specs.ExportFile.declared.tree.ExportClass.{ExportClass}
+use Rattle.cjc_world.specs.ExportFile.declared.tree.ExportTree.{ExportTree}
 use Rattle.cjc_check_rules.specs.Classes.{class_with}
 use Rattle.cjc_check_rules.specs.Complete.{Complete}
 use Rattle.cjc_world.specs.declared.image.StaticImage.{StaticImage}
 use Rattle.cjc_world.specs.Classes as world
 use Rattle.cjc_world.specs.Files.{Files}
-use Rattle.cjc_script.specs.declared.value.Value.{Value}
-use Rattle.cjc_script.specs.Sorts.{OfClass}
-use Rattle.cjc_verify_proof.specs.Types.declared.cell.Cell.{Cell}
+use Rattle.cjc_card_semantics.specs.Script.declared.value.Value.{Value}
+use Rattle.cjc_card_semantics.specs.Script.Sorts.{OfClass}
+use Rattle.cjc_intervals.specs.Types.declared.cell.Cell.{Cell}
 use Rattle.cjc_card_semantics.specs.Bytecode.Effects.{Memory, New, effect}
 use Rattle.cjc_card_semantics.specs.Bytecode.Meanings.{Makes}
 use Rattle.cjc_card_semantics.specs.Machine.Loaded.{Loaded, OfFile}
@@ -30,7 +30,7 @@ use Rattle.cjc_card_semantics.specs.Machine.Statics.{Image}
 use Rattle.cjc_card_semantics.specs.Machine.ByToken.{classes}
 use Rattle.cjc_components.specs.Paired.Naming.{files_from}
 use Rattle.cjc_components.specs.Types.{ref_nibbles}
-use Rattle.cjc_card_acts.specs.Frames.Acts.{stack_behind}
+use Rattle.cjc_verify.specs.Frames.Acts.{stack_behind}
 use Rattle.cjc_card_acts.specs.CardTypes.{MemberType, class_by, is_type_of, shape_by}
 use Rattle.cjc_token_proof.specs.Tables.Sound.{IsSound, AreTyped, AreFieldDescs}
 use Rattle.cjc_verify.specs.ClassTypes.{class_type}

@@ -19,7 +19,7 @@ use Rattle.cjc_check_rules.specs.Complete.{Complete}
 use Rattle.cjc_check_rules.specs.Handlers.{handler_spots}
 use Rattle.cjc_check_rules.specs.Instructions.{ends_code, has_start, jump_spots, jumps, lands}
 use Rattle.cjc_check_rules.specs.Spots.{Placed, begins, in_info}
-use Rattle.cjc_verify.specs.LowerCheck.Jumps.Standing.{AreApart}
+use Rattle.cjc_verify.specs.Check.Jumps.Standing.{AreApart}
 use Rattle.cjc_world.specs.declared.image.StaticImage.{StaticImage}
 use Rattle.cjc_world.specs.Files.{Files}
 use Rattle.cjc_card_semantics.specs.Bytecode.Machine.{Fetched, Start}
@@ -28,13 +28,13 @@ use Rattle.cjc_card_semantics.specs.Machine.Classes.{Class, Field, class_of}
 use Rattle.cjc_card_semantics.specs.Machine.Statics.{StaticCell}
 use Rattle.cjc_card_semantics.specs.Machine.Operations.{Callee, class_at, class_by, moved}
 use Rattle.cjc_card_semantics.specs.Machine.Methods.{Code, fetch, fetched_as, start_at, start_of}
-use Rattle.cjc_script.specs.Sorts.{OfClass}
-use Rattle.cjc_verify_proof.specs.Types.declared.state.State.{State}
-use Rattle.cjc_card_acts.specs.Frames.declared.acts.Act.{Act}
-use Rattle.cjc_card_acts.specs.Frames.declared.acts.Catch.{Catch}
-use Rattle.cjc_card_acts.specs.Frames.declared.acts.Step.{Step}
-use Rattle.cjc_card_acts.specs.Frames.Flow.{covers, place_at}
-use Rattle.cjc_card_acts.specs.Frames.Tables.{Breach, IsLeastTable}
+use Rattle.cjc_card_semantics.specs.Script.Sorts.{OfClass}
+use Rattle.cjc_intervals.specs.Types.declared.state.State.{State}
+use Rattle.cjc_verify.specs.Frames.declared.acts.Act.{Act}
+use Rattle.cjc_verify.specs.Frames.declared.acts.Catch.{Catch}
+use Rattle.cjc_verify.specs.Frames.declared.acts.Step.{Step}
+use Rattle.cjc_verify.specs.Frames.Flow.{covers, place_at}
+use Rattle.cjc_verify.specs.Frames.Tables.{Breach, IsLeastTable}
 use Rattle.cjc_card_acts.specs.CardTypes.{ValueType, is_type_of, shape_by}
 use Rattle.cjc_card_acts.specs.Rows.{row}
 use Rattle.cjc_components.specs.Paired.Naming.{part_of}

@@ -9,8 +9,8 @@ use Rattle.cjc_capread.specs.ClassRefs.{is_inside}
 use Rattle.cjc_capread.specs.declared.tree.ClassDescriptor.{ClassDescriptor}
 use Rattle.cjc_capread.specs.declared.tree.ClassRef.{ClassRef}
 use Rattle.cjc_capread.specs.declared.tree.ClassRef.TheVariants.{Inside, Outside}
-use Rattle.cjc_tokens.specs.ExportFile.declared.tree.ExportClass.{ExportClass}
-use Rattle.cjc_tokens.specs.ExportFile.declared.tree.ExportTree.{ExportTree}
+use Rattle.cjc_world.specs.ExportFile.declared.tree.ExportClass.{ExportClass}
+use Rattle.cjc_world.specs.ExportFile.declared.tree.ExportTree.{ExportTree}
 use Rattle.cjc_check_rules.specs.declared.spot.ComponentPlace.{ComponentPlace}
 use Rattle.cjc_check_rules.specs.Complete.{Complete, described_size}
 use Rattle.cjc_check_rules.specs.Described.{all_starts, class_spots, classes_in_order, is_start_of}

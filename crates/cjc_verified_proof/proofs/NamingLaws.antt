@@ -17,7 +17,7 @@ use Rattle.cjc_check_rules.specs.Spots.{placed, starts}
 use Rattle.cjc_check_rules.specs.Classes.{first_class, first_interface}
 use Rattle.cjc_check_rules.specs.Complete.{Complete, class_size, interface_size, map_size}
 use Rattle.cjc_check_rules.specs.Described.{all_starts}
-use Rattle.cjc_components.specs.List.Listed.{ListTree}
+use Rattle.cjc_verify.specs.List.Listed.{ListTree}
 use Rattle.cjc_world.specs.declared.image.StaticImage.{StaticImage}
 use Rattle.cjc_world.specs.Classes.{Class, all_classes}
 use Rattle.cjc_world.specs.Files.{Files}
@@ -28,17 +28,17 @@ use Rattle.cjc_card_semantics.specs.Machine.Classes.{external_named, imported_cl
 use Rattle.cjc_card_semantics.specs.Machine.Classes.{number_from, number_named, object_above, object_class, offset_from}
 use Rattle.cjc_card_semantics.specs.Machine.Classes.{or_else}
 use Rattle.cjc_card_semantics.specs.Machine.Classes as card
-use Rattle.cjc_verify.specs.LowerCardLink.Indices.{first_place}
+use Rattle.cjc_verify.specs.CardLink.Indices.{first_place}
 use Rattle.cjc_components.specs.Class.{class_entry, class_info, implemented, interface_entry, interfaces_of, superclass}
 use Rattle.cjc_components.specs.Class.{table_entry}
 use Rattle.cjc_components.specs.Methods.{method_offset}
 use Rattle.cjc_components.specs.Names.{class_at, class_ref as written_ref, info_starts, ref_to}
-use Rattle.cjc_components.specs.NCode.Lowering.Naming.{Naming}
+use Rattle.cjc_token_proof.specs.NCode.Lowering.Naming.{Naming}
 use Rattle.cjc_components.specs.Package.{Package}
 use Rattle.cjc_components.specs.Paired.Naming.{class_names, files_from}
 use Rattle.cjc_components.specs.Paired.Pairs.{ArePaired}
-use Rattle.cjc_components.specs.VTable.Tables.{table_of}
-use Rattle.cjc_components.specs.VTable.declared.table.InterfaceMap.{InterfaceMap}
+use Rattle.cjc_token_proof.specs.VTable.Tables.{table_of}
+use Rattle.cjc_token_proof.specs.VTable.declared.table.InterfaceMap.{InterfaceMap}
 use Rattle.cjc_token_proof.specs.ByToken.Supers.{IsToldOf, SaysKinds, SaysSupers, above_each, listed_there, of_file}
 use Rattle.cjc_token_proof.specs.ByToken.Supers.{of_package}
 use Rattle.cjc_token_proof.specs.Tables.Infos.{HasInfo}

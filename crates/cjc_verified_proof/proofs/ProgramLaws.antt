@@ -31,17 +31,17 @@ use Rattle.cjc_card_semantics.specs.Machine.Methods.{fetch, fetched_as}
 use Rattle.cjc_card_semantics.specs.Machine.Operations.{Callee, operation, or_undone}
 use Rattle.cjc_card_semantics.specs.Machine.Operations as machine
 use Rattle.cjc_card_semantics.specs.Machine.Statics.{StaticCell, first_array, first_memory}
-use Rattle.cjc_script.specs.Sorts.{OfNumbers, Shape}
-use Rattle.cjc_tokens.specs.Fixpoint.Tables.{HasRow}
-use Rattle.cjc_verify_proof.specs.Types.declared.cell.Cell.{Cell}
-use Rattle.cjc_verify_proof.specs.Types.declared.state.Stack.{Stack}
-use Rattle.cjc_verify_proof.specs.Types.declared.state.Stack.TheVariants.{Cells, Clash}
-use Rattle.cjc_verify_proof.specs.Types.declared.state.State.{State}
-use Rattle.cjc_card_acts.specs.Frames.declared.acts.Act.{Act}
-use Rattle.cjc_card_acts.specs.Frames.declared.acts.Step.{Step}
-use Rattle.cjc_card_acts.specs.Frames.Acts.{Subtype, clash, has_wrong, has_wrong_local, misnamed, unknown, wrong}
-use Rattle.cjc_card_acts.specs.Frames.Flow as flow
-use Rattle.cjc_card_acts.specs.Frames.Tables.{Breach, IsLeastTable}
+use Rattle.cjc_card_semantics.specs.Script.Sorts.{OfNumbers, Shape}
+use Rattle.cjc_intervals.specs.Fixpoint.Tables.{HasRow}
+use Rattle.cjc_intervals.specs.Types.declared.cell.Cell.{Cell}
+use Rattle.cjc_intervals.specs.Types.declared.state.Stack.{Stack}
+use Rattle.cjc_intervals.specs.Types.declared.state.Stack.TheVariants.{Cells, Clash}
+use Rattle.cjc_intervals.specs.Types.declared.state.State.{State}
+use Rattle.cjc_verify.specs.Frames.declared.acts.Act.{Act}
+use Rattle.cjc_verify.specs.Frames.declared.acts.Step.{Step}
+use Rattle.cjc_verify.specs.Frames.Acts.{Subtype, clash, has_wrong, has_wrong_local, misnamed, unknown, wrong}
+use Rattle.cjc_verify.specs.Frames.Flow as flow
+use Rattle.cjc_verify.specs.Frames.Tables.{Breach, IsLeastTable}
 use Rattle.cjc_card_acts.specs.CardTypes.{ValueType, is_type_of}
 use Rattle.cjc_card_acts.specs.Rows.{row}
 use Rattle.cjc_card_acts.specs.Rows as rows

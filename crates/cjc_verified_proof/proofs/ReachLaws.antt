@@ -27,7 +27,7 @@ use Rattle.cjc_card_semantics.specs.Machine.Calls as machine
 use Rattle.cjc_card_semantics.specs.Machine.Classes.{Class, External, Own, class_named, number_from, offset_from}
 use Rattle.cjc_card_semantics.specs.Machine.Loaded.{ClassNames, Loaded, MethodName, Part}
 use Rattle.cjc_card_semantics.specs.Machine.Methods.{Code, start_at, start_of}
-use Rattle.cjc_script.specs.Sorts.{signature_of}
+use Rattle.cjc_card_semantics.specs.Script.Sorts.{signature_of}
 use Rattle.cjc_card_acts.specs.CardTypes.{MemberType}
 use Rattle.cjc_components.specs.Descriptor.{method_in}
 use Rattle.cjc_components.specs.Paired.Naming.{class_names, method_name, method_names, part_of}

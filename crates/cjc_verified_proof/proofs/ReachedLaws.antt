@@ -9,13 +9,13 @@ use Rattle.std.proofs.lemmas.Bool.Decides.{nat_tests}
 use Rattle.cjc_bytes.specs.AccessFlags.{is_interface, is_static}
 use Rattle.cjc_check_rules.specs.Classes.{class_with}
 use Rattle.cjc_check_rules.specs.Classes as check
-use Rattle.cjc_tokens.specs.ExportFile.declared.tree.ExportClass.{ExportClass}
-use Rattle.cjc_tokens.specs.ExportFile.declared.tree.ExportMethod.{ExportMethod}
-use Rattle.cjc_tokens.specs.ExportFile.declared.tree.ExportTree.{ExportTree}
-use Rattle.cjc_tokens.specs.ExportFile.Members.{is_unbound, method_token_taken}
-use Rattle.cjc_tokens.specs.ExportFile.Supers.{IsAtOrAbove, above, at, classes_of, is_one_of, virtual_method}
-use Rattle.cjc_tokens.specs.ExportFile.Supers as exports
-use Rattle.cjc_tokens.specs.ExportFile.Writable.{ClassFits, IsWritable, MethodStands}
+use Rattle.cjc_world.specs.ExportFile.declared.tree.ExportClass.{ExportClass}
+use Rattle.cjc_world.specs.ExportFile.declared.tree.ExportMethod.{ExportMethod}
+use Rattle.cjc_world.specs.ExportFile.declared.tree.ExportTree.{ExportTree}
+use Rattle.cjc_world.specs.ExportFile.Members.{is_unbound, method_token_taken}
+use Rattle.cjc_world.specs.ExportFile.Supers.{IsAtOrAbove, above, at, classes_of, is_one_of, virtual_method}
+use Rattle.cjc_world.specs.ExportFile.Supers as exports
+use Rattle.cjc_world.specs.ExportFile.Writable.{ClassFits, IsWritable, MethodStands}
 use Rattle.cjc_world.specs.declared.found.Found.{Found}
 use Rattle.cjc_world.specs.Classes.{Class, Member, all_classes, class_named, imported, method_of_export}
 use Rattle.cjc_world.specs.Lookup.{first, is_called, is_selectable, member_at, or_else, own_method}
@@ -28,18 +28,18 @@ use Rattle.cjc_tokens.specs.Members.{first_of as foremost_of}
 use Rattle.cjc_tokens.specs.Slots.{hidden_slots, slots, token}
 use Rattle.cjc_tokens.proofs.Facts.{position-cons, same-refl}
 use Rattle.cjc_tokens.proofs.Walks.{supertypes-known}
-use Rattle.cjc_components.specs.VTable.Dispatch as tables
-use Rattle.cjc_components.specs.VTable.Laws.{Under, below, itself}
-use Rattle.cjc_components.specs.VTable.Naming.{named}
+use Rattle.cjc_token_proof.specs.VTable.Dispatch as tables
+use Rattle.cjc_token_proof.specs.VTable.Laws.{Under, below, itself}
+use Rattle.cjc_token_proof.specs.VTable.Naming.{named}
 use Rattle.cjc_components.proofs.VTableCalls.{In-behind, In-front}
 use Rattle.cjc_components.proofs.VTableGiven.{In-split}
 use Rattle.cjc_components.proofs.VTableWorlds.{In-either, methods-behind, methods-front}
-use Rattle.cjc_script.specs.Sorts as sorts
+use Rattle.cjc_card_semantics.specs.Script.Sorts as sorts
 use Rattle.cjc_card_semantics.specs.Machine.Classes as card
 use Rattle.cjc_card_semantics.specs.Machine.Dispatch.{At, Outward, Selection, dispatched_hidden, dispatched_interface}
 use Rattle.cjc_card_semantics.specs.Machine.Dispatch.{dispatched_open, tower}
 use Rattle.cjc_card_semantics.specs.Machine.Loaded.{Loaded}
-use Rattle.cjc_components.specs.NCode.Lowering.Naming.{Naming}
+use Rattle.cjc_token_proof.specs.NCode.Lowering.Naming.{Naming}
 use Rattle.cjc_components.specs.Package.{Package}
 use Rattle.cjc_token_proof.specs.ByToken.Supers.{has_class}
 use Rattle.cjc_token_proof.specs.Calls.Dispatching.{DispatchAgrees, event, selection_of}

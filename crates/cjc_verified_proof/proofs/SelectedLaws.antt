@@ -18,7 +18,7 @@ use Rattle.cjc_capread.specs.declared.tree.MethodDescriptor.{MethodDescriptor}
 use Rattle.cjc_check_rules.specs.Classes.{class_with}
 use Rattle.cjc_check_rules.specs.Classes as check
 use Rattle.cjc_check_rules.specs.Codes.{methods_begin}
-use Rattle.cjc_tokens.specs.ExportFile.declared.tree.ExportTree.{ExportTree}
+use Rattle.cjc_world.specs.ExportFile.declared.tree.ExportTree.{ExportTree}
 use Rattle.cjc_check_rules.specs.Members.{class_methods, is_method_start}
 use Rattle.cjc_world.specs.declared.found.Found.{Found}
 use Rattle.cjc_world.specs.Added.{added}
@@ -27,20 +27,20 @@ use Rattle.cjc_world.specs.Classes as world
 use Rattle.cjc_world.specs.Lookup.{member_at}
 use Rattle.cjc_world.specs.Order.{class_order, methods_of_class, places, written}
 use Rattle.cjc_tokens.specs.Members.{Signature, signature_of}
-use Rattle.cjc_components.specs.VTable.Laws.{Under}
-use Rattle.cjc_components.specs.VTable.Naming.{member_named, method_named, named}
+use Rattle.cjc_token_proof.specs.VTable.Laws.{Under}
+use Rattle.cjc_token_proof.specs.VTable.Naming.{member_named, method_named, named}
 use Rattle.cjc_components.proofs.VTableFiled.{Has, at_front, behind, get-has}
 use Rattle.cjc_components.proofs.VTableNumbers.{at-kind}
 use Rattle.cjc_components.proofs.VTableSlotNames.{added-none}
-use Rattle.cjc_script.specs.Sorts.{Shape, OfClass}
-use Rattle.cjc_script.specs.Sorts as sorts
+use Rattle.cjc_card_semantics.specs.Script.Sorts.{Shape, OfClass}
+use Rattle.cjc_card_semantics.specs.Script.Sorts as sorts
 use Rattle.cjc_card_semantics.specs.Machine.Classes.{is_of}
 use Rattle.cjc_card_semantics.specs.Machine.Classes as card
 use Rattle.cjc_card_semantics.specs.Machine.Dispatch.{At, Outward, Selection}
 use Rattle.cjc_card_semantics.specs.Machine.Loaded.{Loaded}
 use Rattle.cjc_card_acts.specs.CardTypes.{both_of, shape_by}
 use Rattle.cjc_components.specs.Descriptor.{method_flags, method_in, methods_with_added, no_member}
-use Rattle.cjc_components.specs.NCode.Lowering.Naming.{Naming}
+use Rattle.cjc_token_proof.specs.NCode.Lowering.Naming.{Naming}
 use Rattle.cjc_components.specs.Package.{Package}
 use Rattle.cjc_token_proof.specs.Calls.Dispatching.{event, selection_of}
 use Rattle.cjc_verify.specs.ClassTypes.{class_type}

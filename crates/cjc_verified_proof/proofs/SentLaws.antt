@@ -19,11 +19,11 @@ use Rattle.cjc_card_semantics.specs.Machine.Dispatch.{dispatched_interface, inte
 use Rattle.cjc_card_semantics.specs.Machine.Dispatch.{outward}
 use Rattle.cjc_card_semantics.specs.Machine.Loaded.{ClassNames, Loaded, MethodName}
 use Rattle.cjc_card_semantics.specs.Machine.Methods.{Code}
-use Rattle.cjc_script.specs.Sorts.{OfClass, Shape, signature_of as types_of}
+use Rattle.cjc_card_semantics.specs.Script.Sorts.{OfClass, Shape, signature_of as types_of}
 use Rattle.cjc_card_acts.specs.CardTypes.{MemberType, both_of, shape_by}
-use Rattle.cjc_tokens.specs.ExportFile.Supers.{virtual_method}
-use Rattle.cjc_tokens.specs.ExportFile.declared.tree.ExportClass.{ExportClass}
-use Rattle.cjc_tokens.specs.ExportFile.declared.tree.ExportMethod.{ExportMethod}
+use Rattle.cjc_world.specs.ExportFile.Supers.{virtual_method}
+use Rattle.cjc_world.specs.ExportFile.declared.tree.ExportClass.{ExportClass}
+use Rattle.cjc_world.specs.ExportFile.declared.tree.ExportMethod.{ExportMethod}
 use Rattle.cjc_world.specs.Classes as world
 use Rattle.cjc_world.specs.Classes.{Member, all_classes, imported, method_of_export}
 use Rattle.cjc_world.specs.Lookup.{object}
@@ -31,7 +31,7 @@ use Rattle.cjc_world.specs.Supertypes.{stands, supertypes}
 use Rattle.cjc_tokens.specs.Members.{Signature, is_initialiser, same, signature_of}
 use Rattle.cjc_tokens.specs.Methods.{interface_methods}
 use Rattle.cjc_tokens.proofs.Walks.{supertypes-known}
-use Rattle.cjc_components.specs.NCode.Lowering.Naming.{Naming}
+use Rattle.cjc_token_proof.specs.NCode.Lowering.Naming.{Naming}
 use Rattle.cjc_components.specs.Package.{Package}
 use Rattle.cjc_token_proof.specs.ByToken.Above.{IsAtOrAbove, itself, upwards as higher}
 use Rattle.cjc_token_proof.specs.ByToken.Supers.{SaysKinds}

@@ -4,18 +4,18 @@ use Rattle.std.proofs.Common.{refl, sym, ap, subst, ◌∙◌, inl, inr, append_
 use Rattle.std.specs.Prelude.{◌||◌, cond, filter}
 use Rattle.std.proofs.lemmas.List.Concat.{flat_map-cons}
 use Rattle.cjc_bytes.specs.declared.fault.MemberId.{MemberId}
-use Rattle.cjc_tokens.specs.ClassFile.declared.tree.ClassTree.{ClassTree}
-use Rattle.cjc_tokens.specs.ClassFile.declared.tree.FieldTree.{FieldTree}
+use Rattle.cjc_world.specs.ClassFile.declared.tree.ClassTree.{ClassTree}
+use Rattle.cjc_world.specs.ClassFile.declared.tree.FieldTree.{FieldTree}
 use Rattle.cjc_world.specs.declared.image.ArrayCell.{ArrayCell}
 use Rattle.cjc_world.specs.declared.image.ValueCell.{ValueCell}
-use Rattle.cjc_card_acts.specs.Bytecode.declared.method_code.MethodCode.{MethodCode}
-use Rattle.cjc_components.specs.NCode.PoolOrder.{same_member}
-use Rattle.cjc_script.specs.Sorts.{Sort, Boolean, Byte, Short, Int, Reference, NoValue, field_sort}
-use Rattle.cjc_components.specs.Clinit.Fields.{is_cell}
-use Rattle.cjc_components.specs.Clinit.Image.{IsImage, field_id}
+use Rattle.cjc_intervals.specs.Bytecode.declared.method_code.MethodCode.{MethodCode}
+use Rattle.cjc_token_proof.specs.NCode.PoolOrder.{same_member}
+use Rattle.cjc_card_semantics.specs.Script.Sorts.{Sort, Boolean, Byte, Short, Int, Reference, NoValue, field_sort}
+use Rattle.cjc_verify.specs.Clinit.Fields.{is_cell}
+use Rattle.cjc_verify.specs.Clinit.Image.{IsImage, field_id}
 use Rattle.cjc_components.specs.Package.{Package}
 use Rattle.cjc_components.specs.Statics.{cell_order}
-use Rattle.cjc_token_proof.specs.WorldProof.Initialisers.Values.{StandOnce}
+use Rattle.cjc_token_proof.specs.LowerWorldProof.Initialisers.Values.{StandOnce}
 use Rattle.cjc_token_proof.specs.ByToken.Cells.{HasCells, fields, is_number, is_one_of, letter_by}
 use Rattle.cjc_token_proof.specs.ByToken.Objects.{is_reference as is_reference_sort}
 use Rattle.cjc_token_proof.specs.Tables.Known.{order_of, statics_in, statics_of}

@@ -18,13 +18,13 @@ use Rattle.cjc_world.specs.declared.image.StaticImage.{StaticImage}
 use Rattle.cjc_world.specs.Files.{Files}
 use Rattle.cjc_card_semantics.specs.Bytecode.Machine.{Start}
 use Rattle.cjc_card_semantics.specs.Machine.Methods.{start_at, start_of}
-use Rattle.cjc_script.specs.Sorts.{Signature, signature_of}
-use Rattle.cjc_verify_proof.specs.Types.declared.state.State.{State}
-use Rattle.cjc_card_acts.specs.Frames.Acts.{given}
-use Rattle.cjc_card_acts.specs.Frames.declared.acts.Given.TheVariants.{AnObject}
-use Rattle.cjc_card_acts.specs.Frames.Flow.{frame_flow}
-use Rattle.cjc_card_acts.specs.Frames.Flow as flow
-use Rattle.cjc_card_acts.specs.Frames.Tables.{IsLeastTable}
+use Rattle.cjc_card_semantics.specs.Script.Sorts.{Signature, signature_of}
+use Rattle.cjc_intervals.specs.Types.declared.state.State.{State}
+use Rattle.cjc_verify.specs.Frames.Acts.{given}
+use Rattle.cjc_verify.specs.Frames.declared.acts.Given.TheVariants.{AnObject}
+use Rattle.cjc_verify.specs.Frames.Flow.{frame_flow}
+use Rattle.cjc_verify.specs.Frames.Flow as flow
+use Rattle.cjc_verify.specs.Frames.Tables.{IsLeastTable}
 use Rattle.cjc_card_acts.specs.CardTypes.{MemberType, type_at, type_by, types_in, words}
 use Rattle.cjc_components.specs.Paired.Pairs.{ArePaired}
 use Rattle.cjc_verify.specs.Bodies.{Body, arguments, bodies, frames_of, receiver_of, type_of_body}
@@ -46,7 +46,7 @@ use Rattle.cjc_bytes.proofs.BrokenRules.{among_left, among_right}
 use Rattle.cjc_bytes.proofs.Gets.{any_at, contained, contains_at, mapped_at, item_there, none_each}
 use Rattle.cjc_bytes.proofs.Numbers.{number_same}
 use Rattle.cjc_bytes.proofs.Plain.{same_some}
-use Rattle.cjc_card_acts.specs.Frames.Working.FlowLaws.{frame_flow_stays, frame_laws}
+use Rattle.cjc_verify.specs.Frames.Working.FlowLaws.{frame_flow_stays, frame_laws}
 use Rattle.cjc_intervals.proofs.RangeLaws.Least.{least_exists}
 use Rattle.cjc_verified_proof.proofs.BodyLaws.{method_has_body}
 use Rattle.cjc_verified_proof.proofs.DescribedLaws.{body_own, body_says, filter_got, filter_has}

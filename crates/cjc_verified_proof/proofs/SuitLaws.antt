@@ -22,15 +22,15 @@ use Rattle.cjc_check_rules.specs.Instructions.{is_entry_for, is_needed_by, is_ty
 use Rattle.cjc_check_rules.specs.Instructions.{switch_offsets}
 use Rattle.cjc_world.specs.declared.image.StaticImage.{StaticImage}
 use Rattle.cjc_world.specs.Files.{Files}
-use Rattle.cjc_script.specs.Sorts.{Shape, OfClass, OfNumbers, OfReferences}
+use Rattle.cjc_card_semantics.specs.Script.Sorts.{Shape, OfClass, OfNumbers, OfReferences}
 use Rattle.cjc_card_semantics.specs.Bytecode.Effects.{Cast, Ask, Do, NewNumbers, Touch, Throw}
 use Rattle.cjc_card_semantics.specs.Bytecode.Meanings.{Meaning, Casts, Asks, MakesNumbers, Use, meaning}
 use Rattle.cjc_card_semantics.specs.Bytecode.Meanings as meanings
 use Rattle.cjc_card_semantics.specs.Machine.Loaded.{Loaded}
 use Rattle.cjc_card_semantics.specs.Machine.Classes.{Class, class_of}
 use Rattle.cjc_card_semantics.specs.Machine.Operations.{class_at, element_type, moved, operation, or_undone, type_by}
-use Rattle.cjc_script.specs.Sorts.{Element}
-use Rattle.cjc_card_acts.specs.Frames.declared.acts.Need.{Need}
+use Rattle.cjc_card_semantics.specs.Script.Sorts.{Element}
+use Rattle.cjc_verify.specs.Frames.declared.acts.Need.{Need}
 use Rattle.cjc_card_acts.specs.Rows.{Row, Jumps, Switches, idle, number_words, row, with_number}
 use Rattle.cjc_card_acts.specs.Rows as rows
 use Rattle.cjc_card_acts.specs.CardTypes.{ValueType, numbers_type, shape_by}

@@ -6,11 +6,11 @@ use Rattle.std.proofs.Common.{◌∷◌, Option, Some, None, slice_get}
 use Rattle.std.specs.Prelude.{◌&&◌, ◌||◌, codes, if◌then◌else◌, is_some, nat_lt, not, option_map, length}
 use Rattle.std.specs.Str.{bytes_eq}
 use Rattle.cjc_bytes.specs.AccessFlags as flags
-use Rattle.cjc_components.specs.List.Listed.{ListTree}
+use Rattle.cjc_verify.specs.List.Listed.{ListTree}
 use Rattle.cjc_check_rules.specs.Complete.{Complete}
 use Rattle.cjc_check_rules.specs.Described.{all_starts, classes_in_order}
-use Rattle.cjc_tokens.specs.ExportFile.declared.tree.ExportClass.{ExportClass}
-use Rattle.cjc_tokens.specs.ExportFile.declared.tree.ExportTree.{ExportTree}
+use Rattle.cjc_world.specs.ExportFile.declared.tree.ExportClass.{ExportClass}
+use Rattle.cjc_world.specs.ExportFile.declared.tree.ExportTree.{ExportTree}
 use Rattle.cjc_world.specs.declared.image.StaticImage.{StaticImage}
 use Rattle.cjc_world.specs.Classes as world_of
 use Rattle.cjc_world.specs.Files.{Files}
@@ -25,7 +25,7 @@ use Rattle.cjc_card_semantics.specs.Machine.Classes.{Class, External, Own, exter
 use Rattle.cjc_card_semantics.specs.Machine.Classes.{fault_name, is_in, is_interface, is_interface_file, is_kind_of}
 use Rattle.cjc_card_semantics.specs.Machine.Classes.{number_named, supers}
 use Rattle.cjc_card_semantics.specs.Machine.Loaded.{Loaded, Part}
-use Rattle.cjc_script.specs.Sorts.{OfClass}
+use Rattle.cjc_card_semantics.specs.Script.Sorts.{OfClass}
 use Rattle.cjc_card_acts.specs.CardTypes.{shape_by}
 use Rattle.cjc_components.specs.Names.{ref_to}
 use Rattle.cjc_components.specs.Package.{Package, world}

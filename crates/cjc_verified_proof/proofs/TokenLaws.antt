@@ -9,7 +9,7 @@ use Rattle.std.proofs.lemmas.Bool.Decides.{nat_tests}
 use Rattle.std.proofs.lemmas.Option.{slice_get-map}
 use Rattle.cjc_bytes.specs.AccessFlags.{is_interface}
 use Rattle.cjc_check_rules.specs.Complete.{Complete}
-use Rattle.cjc_components.specs.List.Listed.{ListTree}
+use Rattle.cjc_verify.specs.List.Listed.{ListTree}
 use Rattle.cjc_world.specs.declared.found.Found.{Found}
 use Rattle.cjc_world.specs.declared.image.StaticImage.{StaticImage}
 use Rattle.cjc_world.specs.Added.{added}
@@ -20,9 +20,9 @@ use Rattle.cjc_tokens.specs.Members.{Signature, signature_of}
 use Rattle.cjc_tokens.specs.Methods.{interface_row}
 use Rattle.cjc_tokens.specs.Slots.{implementing, meant_by, row, slots, token}
 use Rattle.cjc_tokens.specs.Tokens.{OfClass, assigned, joined, method_of_token}
-use Rattle.cjc_components.specs.VTable.Calls.{IsTold}
-use Rattle.cjc_components.specs.VTable.Laws.{Under}
-use Rattle.cjc_components.specs.VTable.Naming.{member_named, named}
+use Rattle.cjc_token_proof.specs.VTable.Calls.{IsTold}
+use Rattle.cjc_token_proof.specs.VTable.Laws.{Under}
+use Rattle.cjc_token_proof.specs.VTable.Naming.{member_named, named}
 use Rattle.cjc_components.specs.Descriptor.{as_added, method_in, no_member}
 use Rattle.cjc_components.specs.Package.{Package, world}
 use Rattle.cjc_components.specs.Paired.Pairs.{ArePaired}

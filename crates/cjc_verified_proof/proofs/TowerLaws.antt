@@ -5,7 +5,7 @@ use Rattle.std.specs.Prelude.{if◌then◌else◌, is_some, unwrap_or}
 use Rattle.std.proofs.lemmas.Bool.Decides.{nat_tests}
 use Rattle.cjc_bytes.specs.AccessFlags.{is_interface}
 use Rattle.cjc_check_rules.specs.Complete.{Complete}
-use Rattle.cjc_components.specs.List.Listed.{ListTree}
+use Rattle.cjc_verify.specs.List.Listed.{ListTree}
 use Rattle.cjc_world.specs.declared.found.Found.{Found}
 use Rattle.cjc_world.specs.declared.image.StaticImage.{StaticImage}
 use Rattle.cjc_world.specs.Classes.{Class, all_classes, class_named}
@@ -14,17 +14,17 @@ use Rattle.cjc_world.proofs.Cycles.{class_named-name}
 use Rattle.cjc_tokens.specs.Lines.{line_of}
 use Rattle.cjc_tokens.specs.Members.{Signature}
 use Rattle.cjc_tokens.specs.Slots.{hidden_slots, slots, token}
-use Rattle.cjc_components.specs.VTable.Laws.{Under}
-use Rattle.cjc_components.specs.VTable.Tables.{table_of}
+use Rattle.cjc_token_proof.specs.VTable.Laws.{Under}
+use Rattle.cjc_token_proof.specs.VTable.Tables.{table_of}
 use Rattle.cjc_card_semantics.specs.Machine.Classes.{IsInterface, IsClass, class_of}
 use Rattle.cjc_card_semantics.specs.Machine.Dispatch.{At, Outward, tower}
 use Rattle.cjc_components.specs.Class.{implemented, interface_entry}
 use Rattle.cjc_components.specs.Methods.{method_offset as written_offset}
 use Rattle.cjc_components.specs.Names.{class_at}
-use Rattle.cjc_components.specs.NCode.Lowering.Naming.{Naming}
+use Rattle.cjc_token_proof.specs.NCode.Lowering.Naming.{Naming}
 use Rattle.cjc_components.specs.Package.{Package}
 use Rattle.cjc_components.specs.Paired.Pairs.{ArePaired}
-use Rattle.cjc_components.specs.VTable.declared.table.InterfaceMap.{InterfaceMap}
+use Rattle.cjc_token_proof.specs.VTable.declared.table.InterfaceMap.{InterfaceMap}
 use Rattle.cjc_token_proof.specs.Calls.Dispatching.{DispatchAgrees, SaysTables, SaysTower, of_file, of_package}
 use Rattle.cjc_token_proof.specs.Calls.Dispatching.{event, table_entry}
 use Rattle.cjc_token_proof.specs.Tables.Loading.{naming}

@@ -11,12 +11,13 @@ use Rattle.cjc_capread.specs.declared.tree.ClassRef.TheVariants.{Inside, Outside
 use Rattle.cjc_card_semantics.specs.Machine.ByToken.{by_token}
 use Rattle.cjc_card_semantics.specs.Machine.Classes.{Class, class_named}
 use Rattle.cjc_card_semantics.specs.Machine.Loaded.{Loaded}
-use Rattle.cjc_script.specs.Sorts.{Booleans, Bytes, Ints, OfClass, OfNumbers, OfReferences, Shorts, Shape}
-use Rattle.cjc_script.specs.Sorts.{Signature, Sort, NoValue, field_sort, signature_of}
-use Rattle.cjc_script.specs.Sorts as sorts
-use Rattle.cjc_verify_proof.specs.Types.declared.cell.Cell.{Cell}
-use Rattle.cjc_card_acts.specs.Frames.declared.acts.Given.{Given}
-use Rattle.cjc_card_acts.specs.Frames.Acts.{given}
+use Rattle.cjc_card_semantics.specs.Script.Sorts.{Booleans, Bytes, Ints, OfClass, OfNumbers, OfReferences, Shorts}
+use Rattle.cjc_card_semantics.specs.Script.Sorts.{Shape}
+use Rattle.cjc_card_semantics.specs.Script.Sorts.{Signature, Sort, NoValue, field_sort, signature_of}
+use Rattle.cjc_card_semantics.specs.Script.Sorts as sorts
+use Rattle.cjc_intervals.specs.Types.declared.cell.Cell.{Cell}
+use Rattle.cjc_verify.specs.Frames.declared.acts.Given.{Given}
+use Rattle.cjc_verify.specs.Frames.Acts.{given}
 use Rattle.cjc_card_acts.specs.CardTypes.{MemberType, ValueType, Void, by_nibble, class_by, has_class, member_type}
 use Rattle.cjc_card_acts.specs.CardTypes.{onto}
 use Rattle.cjc_card_acts.specs.CardTypes.{type_by, types_in, with_param, words, shape_by}

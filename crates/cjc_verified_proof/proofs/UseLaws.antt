@@ -8,9 +8,9 @@ use Rattle.cjc_capread.specs.declared.tree.StaticRef.TheVariants as statics
 use Rattle.cjc_capread.specs.declared.tree.PoolEntry.{PoolEntry}
 use Rattle.cjc_capread.specs.declared.tree.PoolEntry.TheVariants.{InstanceFieldref, StaticFieldref}
 use Rattle.cjc_capread.specs.Parts as parts
-use Rattle.cjc_script.specs.declared.value.Value.{Value}
-use Rattle.cjc_script.specs.Sorts.{OfClass}
-use Rattle.cjc_verify_proof.specs.Types.declared.cell.Cell.{Cell}
+use Rattle.cjc_card_semantics.specs.Script.declared.value.Value.{Value}
+use Rattle.cjc_card_semantics.specs.Script.Sorts.{OfClass}
+use Rattle.cjc_intervals.specs.Types.declared.cell.Cell.{Cell}
 use Rattle.cjc_card_semantics.specs.Bytecode.Effects.{Letter, Memory, Get, Put, effect}
 use Rattle.cjc_card_semantics.specs.Bytecode.Meanings.{Use, Gets, Puts, GetsStatic, PutsStatic}
 use Rattle.cjc_card_semantics.specs.Machine.Loaded.{Loaded}
@@ -20,8 +20,8 @@ use Rattle.cjc_card_semantics.specs.Machine.Operations as machine
 use Rattle.cjc_card_semantics.specs.Machine.Statics.{Image}
 use Rattle.cjc_card_semantics.specs.Machine.ByToken.{classes}
 use Rattle.cjc_components.specs.Types.{ref_nibbles}
-use Rattle.cjc_card_acts.specs.Frames.declared.acts.Act.{Act}
-use Rattle.cjc_card_acts.specs.Frames.Acts.{has_wrong, has_wrong_local, stack_behind}
+use Rattle.cjc_verify.specs.Frames.declared.acts.Act.{Act}
+use Rattle.cjc_verify.specs.Frames.Acts.{has_wrong, has_wrong_local, stack_behind}
 use Rattle.cjc_card_acts.specs.CardTypes.{ValueType, class_by, is_moved_by, is_type_of, shape_by}
 use Rattle.cjc_verify.specs.ClassTypes.{class_type}
 use Rattle.cjc_verify.specs.Instructions.{using}

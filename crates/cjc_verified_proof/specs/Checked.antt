@@ -1,6 +1,6 @@
 -- Packages whose components the type checker passes.
 use Rattle.std.specs.Prelude.{◌≡◌, ℕ, nat_lt, length, List, [], slice_get, Some}
-use Rattle.cjc_components.specs.List.Listed.{ListTree}
+use Rattle.cjc_verify.specs.List.Listed.{ListTree}
 use Rattle.cjc_check_rules.specs.ClassRefs.{class_ref_spots, super_spots}
 use Rattle.cjc_check_rules.specs.Codes.{whole_spots}
 use Rattle.cjc_check_rules.specs.Complete.{Complete}
@@ -9,13 +9,13 @@ use Rattle.cjc_check_rules.specs.Handlers.{handler_spots}
 use Rattle.cjc_check_rules.specs.Instructions.{index_spots, jump_spots}
 use Rattle.cjc_check_rules.specs.PoolEntries.{pool_spots}
 use Rattle.cjc_check_rules.specs.Statics.{image_spots}
-use Rattle.cjc_tokens.specs.ExportFile.declared.tree.ExportTree.{ExportTree}
-use Rattle.cjc_tokens.specs.ExportFile.Writable.{IsWritable}
-use Rattle.cjc_card_acts.specs.Bytecode.declared.method_code.MethodCode.{MethodCode}
+use Rattle.cjc_world.specs.ExportFile.declared.tree.ExportTree.{ExportTree}
+use Rattle.cjc_world.specs.ExportFile.Writable.{IsWritable}
+use Rattle.cjc_intervals.specs.Bytecode.declared.method_code.MethodCode.{MethodCode}
 use Rattle.cjc_world.specs.declared.image.StaticImage.{StaticImage}
 use Rattle.cjc_world.specs.Files.{Files}
-use Rattle.cjc_components.specs.Clinit.Image.{IsImage}
-use Rattle.cjc_token_proof.specs.WorldProof.Initialisers.Values.{StandOnce}
+use Rattle.cjc_verify.specs.Clinit.Image.{IsImage}
+use Rattle.cjc_token_proof.specs.LowerWorldProof.Initialisers.Values.{StandOnce}
 use Rattle.cjc_components.specs.Paired.Pairs.{ArePaired}
 use Rattle.cjc_token_proof.specs.Tables.Sound.{IsSound, AreTyped, AreFieldDescs}
 use Rattle.cjc_verify.specs.Pairs.{Pair, pair_of}

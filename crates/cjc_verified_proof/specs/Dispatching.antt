@@ -1,6 +1,6 @@
 -- What the components of a pair name, and what dispatch by their tables rests on and gives.
 use Rattle.std.specs.Prelude.{◌≡◌, ◌<◌, ℕ, List, [], slice_get, Some, nat_lt, false, if◌then◌else◌}
-use Rattle.cjc_components.specs.List.Listed.{ListTree}
+use Rattle.cjc_verify.specs.List.Listed.{ListTree}
 use Rattle.cjc_world.specs.declared.found.Found.{Found}
 use Rattle.cjc_world.specs.declared.image.StaticImage.{StaticImage}
 use Rattle.cjc_world.specs.Classes.{Class}
@@ -9,12 +9,12 @@ use Rattle.cjc_world.specs.Supertypes.{AreSupertypes, Supertypes, supertypes}
 use Rattle.cjc_tokens.specs.Lines.{line_of}
 use Rattle.cjc_tokens.specs.Members.{Signature}
 use Rattle.cjc_tokens.specs.Slots.{implementing, implementing_hidden}
-use Rattle.cjc_components.specs.VTable.Kept.{CallsAgree, Keeps}
-use Rattle.cjc_components.specs.VTable.Meant.{PackageTokensMean, TokensMean}
-use Rattle.cjc_components.specs.VTable.Naming.{named}
-use Rattle.cjc_components.specs.VTable.Tables.{table_of}
+use Rattle.cjc_token_proof.specs.VTable.Kept.{CallsAgree, Keeps}
+use Rattle.cjc_token_proof.specs.VTable.Meant.{PackageTokensMean, TokensMean}
+use Rattle.cjc_token_proof.specs.VTable.Naming.{named}
+use Rattle.cjc_token_proof.specs.VTable.Tables.{table_of}
 use Rattle.cjc_card_semantics.specs.Machine.Dispatch.{At, dispatched_hidden, dispatched_open, tower}
-use Rattle.cjc_components.specs.NCode.Lowering.Naming.{Naming}
+use Rattle.cjc_token_proof.specs.NCode.Lowering.Naming.{Naming}
 use Rattle.cjc_components.specs.Package.{Package, world}
 use Rattle.cjc_token_proof.specs.Calls.Dispatching.{selection_of}
 use Rattle.cjc_token_proof.specs.Tables.Loading.{naming}

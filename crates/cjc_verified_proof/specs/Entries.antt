@@ -8,8 +8,8 @@ use Rattle.cjc_capread.specs.declared.tree.StaticRef.TheVariants as statics
 use Rattle.cjc_capread.specs.declared.tree.PoolEntry.{PoolEntry}
 use Rattle.cjc_capread.specs.declared.tree.PoolEntry.TheVariants.{Classref, InstanceFieldref, VirtualMethodref}
 use Rattle.cjc_capread.specs.declared.tree.PoolEntry.TheVariants.{SuperMethodref, StaticFieldref, StaticMethodref}
-use Rattle.cjc_tokens.specs.ExportFile.declared.tree.ExportClass.{ExportClass}
-use Rattle.cjc_tokens.specs.ExportFile.declared.tree.ExportTree.{ExportTree}
+use Rattle.cjc_world.specs.ExportFile.declared.tree.ExportClass.{ExportClass}
+use Rattle.cjc_world.specs.ExportFile.declared.tree.ExportTree.{ExportTree}
 use Rattle.cjc_check_rules.specs.Complete.{Complete}
 use Rattle.cjc_world.specs.Files.{Files}
 use Rattle.cjc_card_semantics.specs.Bytecode.Effects.{Letter}

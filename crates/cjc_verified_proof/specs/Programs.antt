@@ -4,7 +4,7 @@ use Rattle.std.specs.Prelude.{Contains, ℤ}
 use Rattle.cjc_capread.specs.Opcodes.{Byte, Index2}
 use Rattle.cjc_capread.specs.declared.tree.PoolEntry.{PoolEntry}
 use Rattle.cjc_bytes.specs.declared.fault.MemberId.{MemberId}
-use Rattle.cjc_script.specs.Sorts.{Shape}
+use Rattle.cjc_card_semantics.specs.Script.Sorts.{Shape}
 use Rattle.cjc_card_semantics.specs.Bytecode.Machine.{Start}
 use Rattle.cjc_card_semantics.specs.Bytecode.Meanings.{Calls, CallsInterface, Mode}
 use Rattle.cjc_card_semantics.specs.Machine.Calls.{sent}
@@ -13,7 +13,7 @@ use Rattle.cjc_card_semantics.specs.Machine.Methods.{Code}
 use Rattle.cjc_card_semantics.specs.Machine.Operations.{operation, or_undone}
 use Rattle.cjc_card_semantics.specs.Machine.Operations as machine
 use Rattle.cjc_card_acts.specs.CardTypes.{ValueType}
-use Rattle.cjc_card_acts.specs.Frames.Tables.{IsLeastTable}
+use Rattle.cjc_verify.specs.Frames.Tables.{IsLeastTable}
 use Rattle.cjc_verify.specs.Bodies.{Body, bodies, frames_of, type_of_body}
 use Rattle.cjc_verify.specs.Instructions.{by_interface, throwable, using}
 use Rattle.cjc_verify.specs.Named.{entry_of, entry_type, is_unmade_class}

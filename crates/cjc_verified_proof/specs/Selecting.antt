@@ -4,7 +4,7 @@ use Rattle.cjc_bytes.specs.declared.fault.MemberId.{MemberId}
 use Rattle.cjc_capread.specs.declared.tree.ClassRef.{ClassRef}
 use Rattle.cjc_capread.specs.declared.tree.PoolEntry.TheVariants.{VirtualMethodref, SuperMethodref}
 use Rattle.cjc_check_rules.specs.Members.{is_method_start}
-use Rattle.cjc_script.specs.Sorts.{Shape, OfClass, Signature, signature_of}
+use Rattle.cjc_card_semantics.specs.Script.Sorts.{Shape, OfClass, Signature, signature_of}
 use Rattle.cjc_card_semantics.specs.Machine.Classes.{Class, class_of, shape_class}
 use Rattle.cjc_card_semantics.specs.Machine.Calls.{dispatched_on}
 use Rattle.cjc_card_semantics.specs.Machine.Dispatch.{Token, Selection, NotFound, At, Outward, above, dispatched}

@@ -13,9 +13,9 @@ use Rattle.cjc_check_rules.specs.Complete.{Complete}
 use Rattle.cjc_check_rules.specs.Members.{is_method_start}
 use Rattle.cjc_card_semantics.specs.Bytecode.Machine.{Start}
 use Rattle.cjc_card_semantics.specs.Machine.Methods.{Code, start_of}
-use Rattle.cjc_script.specs.Sorts.{Signature, signature_of}
-use Rattle.cjc_card_acts.specs.Frames.declared.acts.Act.{Act}
-use Rattle.cjc_card_acts.specs.Frames.Acts.{given}
+use Rattle.cjc_card_semantics.specs.Script.Sorts.{Signature, signature_of}
+use Rattle.cjc_verify.specs.Frames.declared.acts.Act.{Act}
+use Rattle.cjc_verify.specs.Frames.Acts.{given}
 use Rattle.cjc_card_acts.specs.CardTypes.{type_by, types_in}
 use Rattle.cjc_verify.specs.Bodies.{Body, type_of_body}
 use Rattle.cjc_verify.specs.ClassTypes.{class_type}

@@ -2,8 +2,8 @@
 //! that its calls reach its methods. It has laws alone, for whoever proves that such components are never stuck.
 ghost use Rattle.std.specs.Prelude.{◌≡◌, ℕ, [], Some, None, Contains};
 ghost use Rattle.cjc_bytes.specs.declared.fault.MemberId.{MemberId};
-ghost use Rattle.cjc_script.specs.declared.script.Script.{Script};
-ghost use Rattle.cjc_script.specs.declared.report.Outcome.TheVariants.{Stuck};
+ghost use Rattle.cjc_card_semantics.specs.Script.declared.script.Script.{Script};
+ghost use Rattle.cjc_card_semantics.specs.Script.declared.report.Outcome.TheVariants.{Stuck};
 ghost use Rattle.cjc_card_semantics.specs.Bytecode.Machine.{Start};
 ghost use Rattle.cjc_card_semantics.specs.Machine.ByToken.{run};
 ghost use Rattle.cjc_card_semantics.specs.Machine.Calls.{called};

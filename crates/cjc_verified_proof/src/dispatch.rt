@@ -2,18 +2,18 @@
 //! no rule are never stuck.
 ghost use Rattle.std.specs.Prelude.{◌≡◌, ◌<◌, ℕ, false, List, [], Some, Bool, length, nat_lt, slice_get};
 ghost use Rattle.cjc_bytes.specs.AccessFlags.{is_interface};
-ghost use Rattle.cjc_tokens.specs.ExportFile.Writable.{IsWritable};
-ghost use Rattle.cjc_tokens.specs.ExportFile.declared.tree.ExportTree.{ExportTree};
+ghost use Rattle.cjc_world.specs.ExportFile.Writable.{IsWritable};
+ghost use Rattle.cjc_world.specs.ExportFile.declared.tree.ExportTree.{ExportTree};
 ghost use Rattle.cjc_check_rules.specs.Complete.{Complete};
 ghost use Rattle.cjc_check_rules.specs.PoolEntries.{pool_spots};
-ghost use Rattle.cjc_components.specs.List.Listed.{ListTree};
+ghost use Rattle.cjc_verify.specs.List.Listed.{ListTree};
 ghost use Rattle.cjc_world.specs.declared.image.StaticImage.{StaticImage};
 ghost use Rattle.cjc_world.specs.Classes.{Class, all_classes, class_named};
 ghost use Rattle.cjc_world.specs.Files.{Files};
 ghost use Rattle.cjc_tokens.specs.Lines.{line_of};
 ghost use Rattle.cjc_tokens.specs.Members.{Signature};
 ghost use Rattle.cjc_tokens.specs.Slots.{hidden_slots, slots, token};
-ghost use Rattle.cjc_components.specs.VTable.Laws.{Under};
+ghost use Rattle.cjc_token_proof.specs.VTable.Laws.{Under};
 ghost use Rattle.cjc_components.specs.Paired.Pairs.{ArePaired};
 ghost use Rattle.cjc_token_proof.specs.Calls.Dispatching.{DispatchAgrees};
 ghost use Rattle.cjc_token_proof.specs.Tables.Sound.{IsSound};

@@ -2,7 +2,7 @@
 //! for whoever proves that components which break no rule are never stuck.
 ghost use Rattle.std.specs.Prelude.{◌≡◌, ℕ, Bool, List, length, nat_lt};
 ghost use Rattle.cjc_check_rules.specs.Complete.{Complete};
-ghost use Rattle.cjc_components.specs.List.Listed.{ListTree};
+ghost use Rattle.cjc_verify.specs.List.Listed.{ListTree};
 ghost use Rattle.cjc_world.specs.declared.image.StaticImage.{StaticImage};
 ghost use Rattle.cjc_world.specs.Classes.{all_classes};
 ghost use Rattle.cjc_world.specs.Files.{Files};

@@ -8,8 +8,8 @@ use Rattle.cjc_capread.specs.Decode.{Instruction, decode, size, size_by}
 use Rattle.cjc_capread.specs.MethodHeader.{MethodHeader, method_header}
 use Rattle.cjc_capread.specs.Opcodes.{Form, form}
 use Rattle.cjc_capread.specs.declared.tree.MethodDescriptor.{MethodDescriptor}
-use Rattle.cjc_methods.specs.Check.Codes.Bodies.{code_of, placed_of}
-use Rattle.cjc_methods.specs.Check.declared.codes.code.Body.{Body}
+use Rattle.cjc_methods.specs.LowerCheck.Codes.Bodies.{code_of, placed_of}
+use Rattle.cjc_methods.specs.LowerCheck.declared.codes.code.Body.{Body}
 use Rattle.cjc_check_rules.specs.Codes.{Code, all_codes, codes, codes_from, cut, instructions, onto, with_code}
 use Rattle.cjc_check_rules.specs.Codes.{with_header, with_instruction}
 use Rattle.cjc_check_rules.specs.Complete.{Complete}

@@ -2,7 +2,7 @@
 use Rattle.std.proofs.Common.{◌≡◌, ℕ, List, map, refl, sym, ap, subst, ◌∙◌, Option, Some, None, option_map}
 use Rattle.cjc_bytes.specs.Breaks.{Break, IsFirstOf}
 use Rattle.cjc_methods.proofs.CheckFirstPlaces.{first_place}
-use Rattle.cjc_methods.specs.Check.Order.{as_break}
+use Rattle.cjc_methods.specs.LowerCheck.Order.{as_break}
 use Rattle.cjc_check_rules.specs.Consistent.{break_at}
 use Rattle.cjc_check_rules.specs.Spots.{first}
 use Rattle.cjc_check_rules.specs.declared.spot.ComponentPlace.{ComponentPlace}

@@ -11,12 +11,12 @@ use Rattle.cjc_card_acts.specs.CardTypes.{ValueType, is_type_of}
 use Rattle.cjc_check_rules.specs.Consistent.{break_at}
 use Rattle.cjc_check_rules.specs.Spots.{Placed, in_info}
 use Rattle.cjc_card_acts.proofs.FramesLeast.{one_least}
-use Rattle.cjc_card_acts.specs.Frames.Acts.{Subtype, Breaks, clash, wrong, off, unknown, misnamed}
-use Rattle.cjc_card_acts.specs.Frames.Flow.{Body as Frames}
-use Rattle.cjc_card_acts.specs.Frames.Tables.{Breach, FirstBreach, IsBrokenAt, IsLeastTable, IsUnbroken}
-use Rattle.cjc_card_acts.specs.Frames.declared.acts.Act.{Act}
-use Rattle.cjc_card_acts.specs.Frames.declared.acts.Step.{Step}
-use Rattle.cjc_card_acts.specs.Types.declared.state.State.{State}
+use Rattle.cjc_card_acts.specs.LowerFrames.Acts.{Subtype, Breaks, clash, wrong, off, unknown, misnamed}
+use Rattle.cjc_card_acts.specs.LowerFrames.Flow.{Body as Frames}
+use Rattle.cjc_card_acts.specs.LowerFrames.Tables.{Breach, FirstBreach, IsBrokenAt, IsLeastTable, IsUnbroken}
+use Rattle.cjc_card_acts.specs.LowerFrames.declared.acts.Act.{Act}
+use Rattle.cjc_card_acts.specs.LowerFrames.declared.acts.Step.{Step}
+use Rattle.cjc_classes.specs.Types.declared.state.State.{State}
 use Rattle.cjc_verify.specs.Bodies.{Body, frames_of, step}
 use Rattle.cjc_verify.specs.Pairs.{Pair}
 use Rattle.cjc_verify.specs.Working.Bodies.{InCode, in_code, in_method}

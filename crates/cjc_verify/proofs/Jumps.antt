@@ -10,8 +10,8 @@ use Rattle.cjc_capread.specs.Opcodes.{Form, Signed2, form}
 use Rattle.cjc_capread.specs.declared.decoder.shape.Shape.{Shape}
 use Rattle.cjc_capread.specs.declared.decoder.shape.Shape.TheVariants as shapes
 use Rattle.cjc_capread.specs.declared.decoder.table.Matches.{Matches}
-use Rattle.cjc_card_calls.specs.CardSemantics.Machine.Operations.{moved}
-use Rattle.cjc_methods.specs.Check.Jumps.Offsets.{is_switch, offsets_in}
+use Rattle.cjc_card_acts.specs.CardSemantics.Machine.Operations.{moved}
+use Rattle.cjc_methods.specs.LowerCheck.Jumps.Offsets.{is_switch, offsets_in}
 use Rattle.cjc_methods.proofs.CheckLands.{offset_more, offset_none}
 use Rattle.cjc_check_rules.specs.Instructions.{default_of, is_jump, jumps, switch_offsets}
 

@@ -5,8 +5,8 @@ use Rattle.std.proofs.Common.{option_map, option_and_then, position, slice_get}
 use Rattle.std.proofs.lemmas.Option.{slice_get-map}
 use Rattle.std.specs.Prelude.{if◌then◌else◌}
 use Rattle.std.specs.List.{find}
-use Rattle.cjc_pairing.specs.ClassOrder.Classes.Numbers.{declared_at}
-use Rattle.cjc_card_calls.specs.ClassFile.declared.tree.ClassTree.{ClassTree}
+use Rattle.cjc_classes.specs.ClassOrder.Classes.Numbers.{declared_at}
+use Rattle.cjc_world.specs.ClassFile.declared.tree.ClassTree.{ClassTree}
 use Rattle.cjc_world.specs.Classes.{Class, declared}
 use Rattle.cjc_world.specs.Order.{class_order}
 use Rattle.cjc_verify.specs.Pairs.{Pair, Described, class_at, described, is_method_at, method_at, starts, world}

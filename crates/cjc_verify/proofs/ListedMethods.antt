@@ -5,8 +5,8 @@ use Rattle.std.specs.Prelude.{if◌then◌else◌}
 use Rattle.std.specs.List.{filter, flat_map}
 use Rattle.cjc_bytes.proofs.Gets.{drop_next, drop_past}
 use Rattle.cjc_capread.specs.MethodHeader.{MethodHeader}
-use Rattle.cjc_methods.specs.Check.Codes.Bodies.{code_of}
-use Rattle.cjc_methods.specs.Check.declared.codes.code.Body.{Body as Code}
+use Rattle.cjc_methods.specs.LowerCheck.Codes.Bodies.{code_of}
+use Rattle.cjc_methods.specs.LowerCheck.declared.codes.code.Body.{Body as Code}
 use Rattle.cjc_check_rules.specs.Complete.{Complete}
 use Rattle.cjc_verify.specs.Bodies.{Body, bodies_of, body_with, header_at}
 use Rattle.cjc_verify.specs.declared.listed.Listed.{Listed}

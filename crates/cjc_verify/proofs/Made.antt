@@ -1,21 +1,21 @@
 -- What tables are made of is what the machine is given of a package.
 use Rattle.std.proofs.Common.{◌≡◌, ℕ, ◌+◌, List, [], ◌∷◌, length, map, refl, sym, ap, ◌∙◌, Bool}
 use Rattle.std.specs.Prelude.{flat_map}
-use Rattle.cjc_card_calls.specs.CardFrame.Kinds.{cell_name_of}
-use Rattle.cjc_card_calls.specs.CardFrame.declared.parts.kinds.CellName.{CellName}
-use Rattle.cjc_card_calls.specs.CardLink.Group.{files_from}
-use Rattle.cjc_card_calls.specs.CardLink.Names.{class_names_of}
-use Rattle.cjc_card_calls.specs.CardLink.Tables.{loaded_of as loaded_in}
-use Rattle.cjc_card_calls.specs.CardLink.declared.names.ClassNames.{ClassNames}
-use Rattle.cjc_card_calls.specs.CardLink.declared.tables.Tables.{Tables}
-use Rattle.cjc_card_calls.specs.CardSemantics.Machine.Loaded.{Loaded, OfFile}
-use Rattle.cjc_card_calls.specs.CheckIndex.Lookup.Parts.{complete_of}
-use Rattle.cjc_card_calls.specs.CheckIndex.declared.lookup.parts.Parts.{Parts}
+use Rattle.cjc_card_acts.specs.CardFrame.Kinds.{cell_name_of}
+use Rattle.cjc_card_acts.specs.CardFrame.declared.parts.kinds.CellName.{CellName}
+use Rattle.cjc_card_calls.specs.LowerCardLink.Group.{files_from}
+use Rattle.cjc_card_calls.specs.LowerCardLink.Names.{class_names_of}
+use Rattle.cjc_card_calls.specs.LowerCardLink.Tables.{loaded_of as loaded_in}
+use Rattle.cjc_card_calls.specs.LowerCardLink.declared.names.ClassNames.{ClassNames}
+use Rattle.cjc_card_calls.specs.LowerCardLink.declared.tables.Tables.{Tables}
+use Rattle.cjc_card_acts.specs.CardSemantics.Machine.Loaded.{Loaded, OfFile}
+use Rattle.cjc_pairing.specs.CheckIndex.Lookup.Parts.{complete_of}
+use Rattle.cjc_pairing.specs.CheckIndex.declared.lookup.parts.Parts.{Parts}
 use Rattle.cjc_check_rules.specs.Complete.{Complete}
-use Rattle.cjc_classes.specs.Components.Paired.Naming as naming
-use Rattle.cjc_classes.specs.Components.Paired.Naming.{cells_in, class_names, exported_in, loaded_of}
-use Rattle.cjc_card_calls.specs.ExportFile.declared.tree.ExportTree.{ExportTree}
-use Rattle.cjc_classes.specs.Tokens.Tokens.{Assigned, assigned}
+use Rattle.cjc_classes.specs.LowerComponents.Paired.Naming as naming
+use Rattle.cjc_classes.specs.LowerComponents.Paired.Naming.{cells_in, class_names, exported_in, loaded_of}
+use Rattle.cjc_world.specs.ExportFile.declared.tree.ExportTree.{ExportTree}
+use Rattle.cjc_methods.specs.Tokens.Tokens.{Assigned, assigned}
 use Rattle.cjc_world.specs.Classes.{all_classes}
 use Rattle.cjc_world.specs.Files.{Files}
 use Rattle.cjc_world.specs.Order.{class_order}

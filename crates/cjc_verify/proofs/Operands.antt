@@ -3,8 +3,8 @@ use Rattle.std.proofs.Common.{◌≡◌, ℕ, ◌/◌, ◌≤◌, List, [], ◌�
 use Rattle.std.proofs.Common.{negsuc}
 use Rattle.std.proofs.lemmas.Grind.{common_steps}
 use Rattle.cjc_card_acts.specs.Rows.{copying_below, idle, swapping_by, unknown, with_local, with_number}
-use Rattle.cjc_card_acts.specs.Frames.declared.acts.Act.{Act}
-use Rattle.cjc_card_calls.specs.CardSemantics.Bytecode.Meanings.{Use}
+use Rattle.cjc_card_acts.specs.LowerFrames.declared.acts.Act.{Act}
+use Rattle.cjc_card_acts.specs.CardSemantics.Bytecode.Meanings.{Use}
 use Rattle.cjc_verify.specs.Instructions.{using_entry, using_some}
 use Rattle.cjc_verify.specs.Named.{entry_of, entry_type}
 use Rattle.cjc_verify.specs.Pairs.{Pair}

@@ -1,15 +1,15 @@
 -- Abstract methods of classes of which objects are made, as code looks for them.
 use Rattle.std.specs.Prelude.{ℕ, ◌-◌, ◌||◌, not, Bool, List, map, drop, length, option_to_list}
 use Rattle.std.specs.List.{list_any, range_with_len}
-use Rattle.cjc_card_calls.specs.CardSemantics.Machine.Classes.{Own}
-use Rattle.cjc_card_calls.specs.CardSemantics.Machine.Dispatch.{Token, dispatched, tower}
+use Rattle.cjc_card_acts.specs.CardSemantics.Machine.Classes.{Own}
+use Rattle.cjc_card_acts.specs.CardSemantics.Machine.Dispatch.{Token, dispatched, tower}
 use Rattle.cjc_capread.specs.declared.tree.ClassEntry.{ClassEntry}
 use Rattle.cjc_capread.specs.declared.tree.ClassInfo.{ClassInfo}
 use Rattle.cjc_check_rules.specs.declared.spot.ComponentPlace.{ComponentPlace}
 use Rattle.cjc_check_rules.specs.Spots.{beside, in_info, unless}
 use Rattle.cjc_check_rules.specs.Complete.{class_size}
 use Rattle.cjc_check_rules.specs.Classes.{first_class}
-use Rattle.cjc_pairing.specs.ClassOrder.Classes.Numbers.{declared_at}
+use Rattle.cjc_classes.specs.ClassOrder.Classes.Numbers.{declared_at}
 use Rattle.cjc_world.specs.Files.{Files}
 use Rattle.cjc_world.specs.Classes.{Class}
 use Rattle.cjc_verify.specs.Pairs.{Pair}

@@ -2,11 +2,11 @@
 -- Virtual Machine Specification 2.2.2, section 6.9).
 use Rattle.std.specs.Prelude.{ℕ, ◌+◌, ◌-◌, ◌==◌, List, [], ◌∷◌, ◌++◌, map, filter, flat_map, drop, option_map, Option}
 use Rattle.std.specs.Prelude.{Some, None, if◌then◌else◌}
-use Rattle.cjc_card_acts.specs.Frames.declared.acts.Given.{Given}
-use Rattle.cjc_card_acts.specs.Frames.declared.acts.Given.TheVariants.{AnObject}
-use Rattle.cjc_card_acts.specs.Frames.declared.acts.Step.{Step}
-use Rattle.cjc_card_acts.specs.Frames.declared.acts.Catch.{Catch}
-use Rattle.cjc_card_acts.specs.Frames.Flow as frames
+use Rattle.cjc_card_acts.specs.LowerFrames.declared.acts.Given.{Given}
+use Rattle.cjc_card_acts.specs.LowerFrames.declared.acts.Given.TheVariants.{AnObject}
+use Rattle.cjc_card_acts.specs.LowerFrames.declared.acts.Step.{Step}
+use Rattle.cjc_card_acts.specs.LowerFrames.declared.acts.Catch.{Catch}
+use Rattle.cjc_card_acts.specs.LowerFrames.Flow as frames
 use Rattle.cjc_bytes.specs.AccessFlags.{is_static}
 use Rattle.cjc_capread.specs.declared.tree.ClassRef.{ClassRef}
 use Rattle.cjc_capread.specs.declared.tree.ClassDescriptor.{ClassDescriptor}

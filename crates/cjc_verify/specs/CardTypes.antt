@@ -2,7 +2,7 @@
 use Rattle.std.specs.Prelude.{◌&&◌, Bool, if◌then◌else◌}
 use Rattle.std.specs.List.{list_all}
 use Rattle.cjc_bytes.specs.Descriptor.{Part, Parts}
-use Rattle.cjc_card_calls.specs.Script.Sorts.{result_by, sort_of}
+use Rattle.cjc_card_acts.specs.Script.Sorts.{result_by, sort_of}
 use Rattle.cjc_verify.specs.Pairs.{is_card_result, is_card_sort}
 
 -- all types of a method, or a field's type

@@ -2,9 +2,9 @@
 use Rattle.std.specs.Prelude.{◌≡◌, ℕ, ◌==◌, List, Option, Some, None, option_and_then, option_map, position, slice_get}
 use Rattle.std.specs.List.{find}
 use Rattle.cjc_bytes.specs.declared.fault.MemberId.{MemberId}
-use Rattle.cjc_pairing.specs.NCode.declared.narrow.PoolKey.{PoolKey}
-use Rattle.cjc_pairing.specs.NCode.declared.narrow.PoolKey.TheVariants as keys
-use Rattle.cjc_classes.specs.Components.Statics.{cell_offset, cell_order}
+use Rattle.cjc_classes.specs.NCode.declared.narrow.PoolKey.{PoolKey}
+use Rattle.cjc_classes.specs.NCode.declared.narrow.PoolKey.TheVariants as keys
+use Rattle.cjc_classes.specs.LowerComponents.Statics.{cell_offset, cell_order}
 use Rattle.cjc_world.specs.declared.image.StaticImage.{StaticImage}
 use Rattle.cjc_verify.specs.declared.described.cells.Cells.{Cells}
 

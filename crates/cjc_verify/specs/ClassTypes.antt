@@ -2,8 +2,8 @@
 -- section 6.13.4).
 use Rattle.std.specs.Prelude.{ℕ, List, ◌∷◌}
 use Rattle.cjc_capread.specs.declared.tree.ClassRef.{ClassRef}
-use Rattle.cjc_classes.specs.Components.Types.{ref_nibbles}
-use Rattle.cjc_card_acts.specs.Frames.Types.{class_nibble, references_nibble}
+use Rattle.cjc_classes.specs.LowerComponents.Types.{ref_nibbles}
+use Rattle.cjc_card_acts.specs.LowerFrames.Types.{class_nibble, references_nibble}
 
 -- the type of objects of a class
 abbrev pub class_type : ClassRef → List ℕ

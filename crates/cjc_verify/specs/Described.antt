@@ -23,18 +23,18 @@ use Rattle.cjc_check_rules.specs.Spots.{in_info, unless, beside, item_at}
 use Rattle.cjc_check_rules.specs.Complete.{described_size, array_size}
 use Rattle.cjc_check_rules.specs.ClassRefs.{fields_begin, pool_count_at}
 use Rattle.cjc_check_rules.specs.Described.{methods_begin, types_at}
-use Rattle.cjc_card_calls.specs.Script.Sorts.{Sort, Boolean, Byte, Short, Int, Reference, field_sort}
-use Rattle.cjc_card_calls.specs.ClassFile.declared.tree.FieldTree.{FieldTree}
+use Rattle.cjc_card_acts.specs.Script.Sorts.{Sort, Boolean, Byte, Short, Int, Reference, field_sort}
+use Rattle.cjc_world.specs.ClassFile.declared.tree.FieldTree.{FieldTree}
 use Rattle.cjc_world.specs.declared.found.Found.{Found}
 use Rattle.cjc_world.specs.Classes.{Class}
 use Rattle.cjc_world.specs.Lookup.{member_at}
 use Rattle.cjc_world.specs.Order.{class_order, methods_of_class}
-use Rattle.cjc_classes.specs.Tokens.Fields.{is_constant}
-use Rattle.cjc_classes.specs.Tokens.Tokens.{token_of_class, token_of_member}
-use Rattle.cjc_classes.specs.LowerClinit.Image.{field_id}
-use Rattle.cjc_classes.specs.Components.Class.{fields_of}
-use Rattle.cjc_classes.specs.Components.Descriptor.{class_flags, field_flags, method_flags, method_in}
-use Rattle.cjc_classes.specs.Components.Statics.{cell_order, cell_offset}
+use Rattle.cjc_methods.specs.Tokens.Fields.{is_constant}
+use Rattle.cjc_methods.specs.Tokens.Tokens.{token_of_class, token_of_member}
+use Rattle.cjc_classes.specs.Clinit.Image.{field_id}
+use Rattle.cjc_classes.specs.LowerComponents.Class.{fields_of}
+use Rattle.cjc_classes.specs.LowerComponents.Descriptor.{class_flags, field_flags, method_flags, method_in}
+use Rattle.cjc_classes.specs.LowerComponents.Statics.{cell_order, cell_offset}
 use Rattle.cjc_verify.specs.Pairs.{Pair, world, class_ref, nibbles_of}
 use Rattle.cjc_verify.specs.Named.{named_desc}
 

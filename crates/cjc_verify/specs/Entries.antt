@@ -4,11 +4,11 @@ use Rattle.std.specs.Prelude.{Bool, true}
 use Rattle.std.specs.Prelude.{false, if◌then◌else◌, is_some, None}
 use Rattle.cjc_capread.specs.declared.tree.PoolEntry.{PoolEntry}
 use Rattle.cjc_capread.specs.declared.tree.PoolEntry.TheVariants.{Classref}
-use Rattle.cjc_classes.specs.Components.Descriptor.{method_in, no_member}
-use Rattle.cjc_classes.specs.Tokens.Tokens.{method_of_token}
-use Rattle.cjc_card_calls.specs.ClassFile.declared.tree.ClassTree.{ClassTree}
-use Rattle.cjc_card_calls.specs.ClassFile.declared.tree.FieldTree.{FieldTree}
-use Rattle.cjc_card_calls.specs.ExportFile.declared.tree.ExportClass.{ExportClass}
+use Rattle.cjc_classes.specs.LowerComponents.Descriptor.{method_in, no_member}
+use Rattle.cjc_methods.specs.Tokens.Tokens.{method_of_token}
+use Rattle.cjc_world.specs.ClassFile.declared.tree.ClassTree.{ClassTree}
+use Rattle.cjc_world.specs.ClassFile.declared.tree.FieldTree.{FieldTree}
+use Rattle.cjc_world.specs.ExportFile.declared.tree.ExportClass.{ExportClass}
 use Rattle.cjc_world.specs.Classes.{Class, all_classes, class_at, method_of_export}
 use Rattle.cjc_world.specs.Files.{Files}
 use Rattle.cjc_verify.specs.Named.{found_desc}

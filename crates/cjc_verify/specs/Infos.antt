@@ -15,17 +15,17 @@ use Rattle.cjc_check_rules.specs.Spots.{in_info, unless, beside, bytes_differ}
 use Rattle.cjc_check_rules.specs.Complete.{map_size}
 use Rattle.cjc_check_rules.specs.Classes.{first_interface}
 use Rattle.cjc_check_rules.specs.ClassRefs.{maps_begin}
-use Rattle.cjc_card_calls.specs.CardSemantics.Machine.Classes.{Info, IsInterface, IsClass, Own, info_size}
-use Rattle.cjc_card_calls.specs.CardSemantics.Machine.Dispatch.{Token, Open, Hidden, tower, dispatched}
+use Rattle.cjc_card_acts.specs.CardSemantics.Machine.Classes.{Info, IsInterface, IsClass, Own, info_size}
+use Rattle.cjc_card_acts.specs.CardSemantics.Machine.Dispatch.{Token, Open, Hidden, tower, dispatched}
 use Rattle.cjc_world.specs.declared.found.Found.{Found}
 use Rattle.cjc_world.specs.Classes.{Class}
 use Rattle.cjc_world.specs.Order.{class_order}
-use Rattle.cjc_classes.specs.Tokens.Fields.{instance_cells}
-use Rattle.cjc_pairing.specs.VTable.declared.table.ClassTable.{ClassTable}
-use Rattle.cjc_pairing.specs.VTable.declared.table.InterfaceMap.{InterfaceMap}
-use Rattle.cjc_pairing.specs.VTable.Tables.{table_of}
-use Rattle.cjc_classes.specs.Components.Class.{interfaces_of, info_flags, fields_of, superclass, reference_count}
-use Rattle.cjc_classes.specs.Components.Class.{first_reference_token}
+use Rattle.cjc_methods.specs.Tokens.Fields.{instance_cells}
+use Rattle.cjc_classes.specs.VTable.declared.table.ClassTable.{ClassTable}
+use Rattle.cjc_classes.specs.VTable.declared.table.InterfaceMap.{InterfaceMap}
+use Rattle.cjc_classes.specs.VTable.Tables.{table_of}
+use Rattle.cjc_classes.specs.LowerComponents.Class.{interfaces_of, info_flags, fields_of, superclass, reference_count}
+use Rattle.cjc_classes.specs.LowerComponents.Class.{first_reference_token}
 use Rattle.cjc_verify.specs.Pairs.{Pair, world, class_ref, method_offset}
 use Rattle.cjc_verify.specs.Named.{is_unmade, is_abstract_selection}
 

@@ -11,17 +11,17 @@ use Rattle.cjc_capread.specs.declared.tree.PoolEntry.TheVariants.{StaticFieldref
 use Rattle.cjc_capread.specs.Decode.{Instruction}
 use Rattle.cjc_check_rules.specs.Spots.{Placed}
 use Rattle.cjc_check_rules.specs.Instructions.{jumps}
-use Rattle.cjc_card_calls.specs.CardSemantics.Bytecode.Effects.{Letter}
-use Rattle.cjc_card_calls.specs.CardSemantics.Bytecode.Meanings.{Use, Gets, Puts, GetsStatic, PutsStatic, Calls, Makes}
-use Rattle.cjc_card_calls.specs.CardSemantics.Bytecode.Meanings.{MakesReferences, Virtual, Special, Static}
-use Rattle.cjc_card_calls.specs.CardSemantics.Machine.Classes.{external_named}
-use Rattle.cjc_card_calls.specs.CardSemantics.Machine.Operations.{moved}
-use Rattle.cjc_classes.specs.Components.Names.{ref_to}
-use Rattle.cjc_card_acts.specs.Frames.declared.acts.Need.{Need}
-use Rattle.cjc_card_acts.specs.Frames.declared.acts.Need.TheVariants.{NumberWord, ReferenceWord, OfType, OfArrays}
-use Rattle.cjc_card_acts.specs.Frames.declared.acts.Given.TheVariants.{ANumber, AnObject, Lost}
-use Rattle.cjc_card_acts.specs.Frames.declared.acts.Read.{Read}
-use Rattle.cjc_card_acts.specs.Frames.declared.acts.Act.{Act}
+use Rattle.cjc_card_acts.specs.CardSemantics.Bytecode.Effects.{Letter}
+use Rattle.cjc_card_acts.specs.CardSemantics.Bytecode.Meanings.{Use, Gets, Puts, GetsStatic, PutsStatic, Calls, Makes}
+use Rattle.cjc_card_acts.specs.CardSemantics.Bytecode.Meanings.{MakesReferences, Virtual, Special, Static}
+use Rattle.cjc_card_acts.specs.CardSemantics.Machine.Classes.{external_named}
+use Rattle.cjc_card_acts.specs.CardSemantics.Machine.Operations.{moved}
+use Rattle.cjc_classes.specs.LowerComponents.Names.{ref_to}
+use Rattle.cjc_card_acts.specs.LowerFrames.declared.acts.Need.{Need}
+use Rattle.cjc_card_acts.specs.LowerFrames.declared.acts.Need.TheVariants.{NumberWord, ReferenceWord, OfType, OfArrays}
+use Rattle.cjc_card_acts.specs.LowerFrames.declared.acts.Given.TheVariants.{ANumber, AnObject, Lost}
+use Rattle.cjc_card_acts.specs.LowerFrames.declared.acts.Read.{Read}
+use Rattle.cjc_card_acts.specs.LowerFrames.declared.acts.Act.{Act}
 use Rattle.cjc_card_acts.specs.CardTypes.{ValueType, MemberType, words, widths, needs_of, needs_of_all, is_moved_by}
 use Rattle.cjc_card_acts.specs.CardTypes.{is_returned_by, numbers_type, all_arrays}
 use Rattle.cjc_verify.specs.ClassTypes.{class_type, array_type}

@@ -23,11 +23,18 @@ pub mod WantedInfos
 pub mod WantedMembers
 pub mod Working
 -- Definitions of lower crates, for those above.
-pub mod Bytes
-pub mod World
-pub mod Tokens
-pub mod VTable
-pub mod CheckIndex
-pub mod LowerCheck
-pub mod NCode
-pub mod LowerCardLink
+pub mod List
+pub mod Script
+pub mod CapRead
+pub mod CapWrite
+pub mod ClassOrder
+pub mod Subset
+pub mod Clinit
+pub mod CheckRules
+pub mod Check
+pub mod CardSemantics
+pub mod CardLink
+pub mod Frames
+pub mod CardActs
+pub mod Narrow
+pub mod Components

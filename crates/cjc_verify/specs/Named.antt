@@ -15,28 +15,28 @@ use Rattle.cjc_capread.specs.declared.tree.PoolEntry.TheVariants.{Classref, Inst
 use Rattle.cjc_capread.specs.declared.tree.PoolEntry.TheVariants.{VirtualMethodref, SuperMethodref}
 use Rattle.cjc_capread.specs.declared.tree.PoolEntry.TheVariants.{StaticFieldref, StaticMethodref}
 use Rattle.cjc_check_rules.specs.Classes.{imported}
-use Rattle.cjc_card_calls.specs.ExportFile.declared.tree.ExportClass.{ExportClass}
-use Rattle.cjc_card_calls.specs.ExportFile.declared.tree.ExportField.{ExportField}
-use Rattle.cjc_card_calls.specs.ExportFile.declared.tree.ExportMethod.{ExportMethod}
-use Rattle.cjc_card_calls.specs.ExportFile.declared.tree.ExportTree.{ExportTree}
-use Rattle.cjc_card_calls.specs.ExportFile.Supers.{classes_of, upwards, virtual_method, is_virtual}
-use Rattle.cjc_card_calls.specs.ExportFile.Members.{is_unbound}
-use Rattle.cjc_card_calls.specs.CardSemantics.Bytecode.Machine.{Start}
-use Rattle.cjc_card_calls.specs.CardSemantics.Machine.Loaded.{Loaded}
-use Rattle.cjc_card_calls.specs.CardSemantics.Machine.Classes.{Class as CardClass, External, class_of}
-use Rattle.cjc_card_calls.specs.CardSemantics.Machine.Classes.{external, external_named}
-use Rattle.cjc_card_calls.specs.CardSemantics.Machine.Classes as card
-use Rattle.cjc_card_calls.specs.CardSemantics.Machine.Dispatch.{Token, Selection, NotFound, At, Outward, tower, above}
-use Rattle.cjc_card_calls.specs.CardSemantics.Machine.Dispatch.{dispatched, exported_line, interface_method}
-use Rattle.cjc_card_calls.specs.CardSemantics.Machine.Operations.{token_of}
-use Rattle.cjc_card_calls.specs.CardSemantics.Machine.Methods.{start_of, Code}
+use Rattle.cjc_world.specs.ExportFile.declared.tree.ExportClass.{ExportClass}
+use Rattle.cjc_world.specs.ExportFile.declared.tree.ExportField.{ExportField}
+use Rattle.cjc_world.specs.ExportFile.declared.tree.ExportMethod.{ExportMethod}
+use Rattle.cjc_world.specs.ExportFile.declared.tree.ExportTree.{ExportTree}
+use Rattle.cjc_world.specs.ExportFile.Supers.{classes_of, upwards, virtual_method, is_virtual}
+use Rattle.cjc_world.specs.ExportFile.Members.{is_unbound}
+use Rattle.cjc_card_acts.specs.CardSemantics.Bytecode.Machine.{Start}
+use Rattle.cjc_card_acts.specs.CardSemantics.Machine.Loaded.{Loaded}
+use Rattle.cjc_card_acts.specs.CardSemantics.Machine.Classes.{Class as CardClass, External, class_of}
+use Rattle.cjc_card_acts.specs.CardSemantics.Machine.Classes.{external, external_named}
+use Rattle.cjc_card_acts.specs.CardSemantics.Machine.Classes as card
+use Rattle.cjc_card_acts.specs.CardSemantics.Machine.Dispatch.{Token, Selection, NotFound, At, Outward, tower, above}
+use Rattle.cjc_card_acts.specs.CardSemantics.Machine.Dispatch.{dispatched, exported_line, interface_method}
+use Rattle.cjc_card_acts.specs.CardSemantics.Machine.Operations.{token_of}
+use Rattle.cjc_card_acts.specs.CardSemantics.Machine.Methods.{start_of, Code}
 use Rattle.cjc_world.specs.declared.found.Found.{Found}
 use Rattle.cjc_world.specs.Classes.{Member, Class, class_at as file_class}
 use Rattle.cjc_world.specs.Classes as world_of
-use Rattle.cjc_classes.specs.Tokens.Tokens.{field_of_token, method_of_token}
-use Rattle.cjc_classes.specs.Components.Class.{superclass}
-use Rattle.cjc_classes.specs.Components.Descriptor.{method_in}
-use Rattle.cjc_classes.specs.Components.Statics.{cell_order, cell_offset}
+use Rattle.cjc_methods.specs.Tokens.Tokens.{field_of_token, method_of_token}
+use Rattle.cjc_classes.specs.LowerComponents.Class.{superclass}
+use Rattle.cjc_classes.specs.LowerComponents.Descriptor.{method_in}
+use Rattle.cjc_classes.specs.LowerComponents.Statics.{cell_order, cell_offset}
 use Rattle.cjc_card_acts.specs.CardTypes.{MemberType, type_at, type_by, types_in}
 use Rattle.cjc_verify.specs.ClassTypes.{class_type}
 use Rattle.cjc_verify.specs.Pairs.{Pair, Described, world, class_at, method_at, member_of}

@@ -10,21 +10,21 @@ use Rattle.cjc_capread.specs.declared.tree.ClassDescriptor.{ClassDescriptor}
 use Rattle.cjc_capread.specs.declared.tree.MethodDescriptor.{MethodDescriptor}
 use Rattle.cjc_check_rules.specs.Complete.{Complete}
 use Rattle.cjc_check_rules.specs.Described.{all_starts}
-use Rattle.cjc_card_calls.specs.CardSemantics.Machine.Loaded.{Loaded}
-use Rattle.cjc_card_calls.specs.CardSemantics.Machine.Classes.{Class as CardClass, Own, external_from, or_else}
-use Rattle.cjc_card_calls.specs.Script.Sorts.{Sort, Boolean, Byte, Short, Int, Reference, NoValue, Signature}
-use Rattle.cjc_card_calls.specs.Script.Sorts.{field_sort}
-use Rattle.cjc_card_calls.specs.Script.Sorts.{signature_of}
+use Rattle.cjc_card_acts.specs.CardSemantics.Machine.Loaded.{Loaded}
+use Rattle.cjc_card_acts.specs.CardSemantics.Machine.Classes.{Class as CardClass, Own, external_from, or_else}
+use Rattle.cjc_card_acts.specs.Script.Sorts.{Sort, Boolean, Byte, Short, Int, Reference, NoValue, Signature}
+use Rattle.cjc_card_acts.specs.Script.Sorts.{field_sort}
+use Rattle.cjc_card_acts.specs.Script.Sorts.{signature_of}
 use Rattle.cjc_world.specs.declared.found.Found.{Found}
 use Rattle.cjc_world.specs.declared.image.StaticImage.{StaticImage}
 use Rattle.cjc_world.specs.Files.{Files}
 use Rattle.cjc_world.specs.Classes.{Member, Class, all_classes}
 use Rattle.cjc_world.specs.Order.{class_order, methods_of_class}
-use Rattle.cjc_classes.specs.Tokens.Tokens.{Assigned, assigned}
-use Rattle.cjc_classes.specs.Components.Descriptor.{method_in}
-use Rattle.cjc_classes.specs.Components.Names.{ref_to}
-use Rattle.cjc_classes.specs.Components.Paired.Naming.{loaded_of}
-use Rattle.cjc_classes.specs.Components.Types.{nibbles_by}
+use Rattle.cjc_methods.specs.Tokens.Tokens.{Assigned, assigned}
+use Rattle.cjc_classes.specs.LowerComponents.Descriptor.{method_in}
+use Rattle.cjc_classes.specs.LowerComponents.Names.{ref_to}
+use Rattle.cjc_classes.specs.LowerComponents.Paired.Naming.{loaded_of}
+use Rattle.cjc_classes.specs.LowerComponents.Types.{nibbles_by}
 
 -- A package with its tokens and with what its static fields hold at first, components of which only Applet and Export
 -- may be absent, and what the machine by token is given of them.

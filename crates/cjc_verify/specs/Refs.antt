@@ -1,6 +1,6 @@
 -- Where the class of a name begins, as code looks for it.
 use Rattle.std.specs.Prelude.{ℕ, List, [], ◌∷◌, Option, Some, None, if◌then◌else◌}
-use Rattle.cjc_card_calls.specs.ClassFile.declared.tree.ClassTree.{ClassTree}
+use Rattle.cjc_world.specs.ClassFile.declared.tree.ClassTree.{ClassTree}
 use Rattle.cjc_classes.specs.ClassInfo.Infos.{number_named}
 
 -- the start of the first class of this name among those of these numbers, as far as there are starts

@@ -7,8 +7,8 @@ use Rattle.cjc_bytes.specs.Breaks.{Break, Among}
 use Rattle.cjc_bytes.specs.Order.{NotAfter}
 use Rattle.cjc_check_rules.specs.Spots.{in_info}
 use Rattle.cjc_check_rules.specs.Consistent.{break_at}
-use Rattle.cjc_card_acts.specs.Types.declared.state.State.{State}
-use Rattle.cjc_card_acts.specs.Frames.Tables.{IsLeastTable, Breach}
+use Rattle.cjc_classes.specs.Types.declared.state.State.{State}
+use Rattle.cjc_card_acts.specs.LowerFrames.Tables.{IsLeastTable, Breach}
 use Rattle.cjc_card_acts.specs.CardTypes.{is_type_of}
 use Rattle.cjc_verify.specs.Pairs.{Pair}
 use Rattle.cjc_verify.specs.Bodies.{Body, bodies, frames_of}

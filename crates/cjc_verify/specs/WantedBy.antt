@@ -1,12 +1,12 @@
 -- The infos that a package wants of Class, as code puts them together: by functions that give class_refs and offsets.
 use Rattle.std.specs.Prelude.{ℕ, List, [], ◌∷◌, ◌++◌, map, slice_get, Option, Some, None}
 use Rattle.cjc_capread.specs.declared.tree.ClassRef.{ClassRef}
-use Rattle.cjc_card_calls.specs.ClassFile.declared.tree.ClassTree.{ClassTree}
+use Rattle.cjc_world.specs.ClassFile.declared.tree.ClassTree.{ClassTree}
 use Rattle.cjc_world.specs.declared.found.Found.{Found}
 use Rattle.cjc_world.specs.Files.{Files}
 use Rattle.cjc_world.specs.Classes.{Class, all_classes}
-use Rattle.cjc_pairing.specs.VTable.declared.table.ClassTable.{ClassTable}
-use Rattle.cjc_classes.specs.Components.Class.{interface_entry}
+use Rattle.cjc_classes.specs.VTable.declared.table.ClassTable.{ClassTable}
+use Rattle.cjc_classes.specs.LowerComponents.Class.{interface_entry}
 use Rattle.cjc_classes.specs.ClassInfo.Entries.{entry_by, with_numbers}
 use Rattle.cjc_verify.specs.declared.infos.wanted.Wanted.{Wanted}
 use Rattle.cjc_verify.specs.declared.infos.wanted.Wanted.TheVariants as wanted

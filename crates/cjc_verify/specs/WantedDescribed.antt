@@ -7,15 +7,15 @@ use Rattle.cjc_capread.specs.declared.tree.FieldPlace.{FieldPlace}
 use Rattle.cjc_capread.specs.declared.tree.FieldPlace.TheVariants as places
 use Rattle.cjc_capread.specs.declared.tree.PoolEntry.{PoolEntry}
 use Rattle.cjc_capread.specs.declared.tree.PoolEntry.TheVariants.{Classref}
-use Rattle.cjc_card_calls.specs.Script.Sorts.{Sort, Boolean, Byte, Short, Int, Reference, NoValue, field_sort}
-use Rattle.cjc_card_calls.specs.ClassFile.declared.tree.FieldTree.{FieldTree}
+use Rattle.cjc_card_acts.specs.Script.Sorts.{Sort, Boolean, Byte, Short, Int, Reference, NoValue, field_sort}
+use Rattle.cjc_world.specs.ClassFile.declared.tree.FieldTree.{FieldTree}
 use Rattle.cjc_world.specs.declared.found.Found.{Found}
 use Rattle.cjc_world.specs.Classes.{Class}
 use Rattle.cjc_world.specs.Lookup.{member_at}
 use Rattle.cjc_world.specs.Order.{class_order, methods_of_class}
-use Rattle.cjc_classes.specs.LowerClinit.Image.{field_id}
-use Rattle.cjc_classes.specs.Components.Descriptor.{class_flags, field_flags, method_flags, method_in}
-use Rattle.cjc_classes.specs.Components.Statics.{cell_offset, cell_order}
+use Rattle.cjc_classes.specs.Clinit.Image.{field_id}
+use Rattle.cjc_classes.specs.LowerComponents.Descriptor.{class_flags, field_flags, method_flags, method_in}
+use Rattle.cjc_classes.specs.LowerComponents.Statics.{cell_offset, cell_order}
 use Rattle.cjc_verify.specs.Pairs.{Pair, class_ref, nibbles_of, world}
 use Rattle.cjc_verify.specs.Named.{named_desc}
 use Rattle.cjc_verify.specs.Described.{Numbered, array_number, class_token, member_token, wanted_fields}

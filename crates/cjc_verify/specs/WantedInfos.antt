@@ -4,11 +4,11 @@ use Rattle.cjc_bytes.specs.AccessFlags.{is_interface}
 use Rattle.cjc_capread.specs.declared.tree.ClassEntry.{ClassEntry}
 use Rattle.cjc_world.specs.Classes.{Class}
 use Rattle.cjc_world.specs.Order.{class_order}
-use Rattle.cjc_classes.specs.Tokens.Fields.{instance_cells}
-use Rattle.cjc_pairing.specs.VTable.Tables.{table_of}
-use Rattle.cjc_classes.specs.Components.Class.{fields_of, first_reference_token, implemented, info_flags}
-use Rattle.cjc_classes.specs.Components.Class.{interface_entry}
-use Rattle.cjc_classes.specs.Components.Class.{reference_count, superclass}
+use Rattle.cjc_methods.specs.Tokens.Fields.{instance_cells}
+use Rattle.cjc_classes.specs.VTable.Tables.{table_of}
+use Rattle.cjc_classes.specs.LowerComponents.Class.{fields_of, first_reference_token, implemented, info_flags}
+use Rattle.cjc_classes.specs.LowerComponents.Class.{interface_entry}
+use Rattle.cjc_classes.specs.LowerComponents.Class.{reference_count, superclass}
 use Rattle.cjc_verify.specs.Pairs.{Pair, class_ref, method_offset, world}
 use Rattle.cjc_verify.specs.Infos.{public_entry}
 use Rattle.cjc_verify.specs.declared.infos.wanted.Wanted.{Wanted}

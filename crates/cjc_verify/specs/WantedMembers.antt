@@ -7,18 +7,18 @@ use Rattle.cjc_bytes.specs.declared.fault.MemberId.{MemberId}
 use Rattle.cjc_capread.specs.declared.tree.ClassRef.{ClassRef}
 use Rattle.cjc_capread.specs.declared.tree.FieldPlace.{FieldPlace}
 use Rattle.cjc_capread.specs.declared.tree.FieldPlace.TheVariants as places
-use Rattle.cjc_card_calls.specs.Script.Sorts.{Sort, Boolean, Byte, Short, Int, Reference, NoValue, field_sort}
-use Rattle.cjc_card_calls.specs.Script.Sorts.{signature_of}
-use Rattle.cjc_card_calls.specs.ClassFile.declared.tree.ClassTree.{ClassTree}
-use Rattle.cjc_card_calls.specs.ClassFile.declared.tree.FieldTree.{FieldTree}
-use Rattle.cjc_card_calls.specs.ClassFile.declared.tree.MethodTree.{MethodTree}
+use Rattle.cjc_card_acts.specs.Script.Sorts.{Sort, Boolean, Byte, Short, Int, Reference, NoValue, field_sort}
+use Rattle.cjc_card_acts.specs.Script.Sorts.{signature_of}
+use Rattle.cjc_world.specs.ClassFile.declared.tree.ClassTree.{ClassTree}
+use Rattle.cjc_world.specs.ClassFile.declared.tree.FieldTree.{FieldTree}
+use Rattle.cjc_world.specs.ClassFile.declared.tree.MethodTree.{MethodTree}
 use Rattle.cjc_world.specs.Files.{Files}
 use Rattle.cjc_world.specs.Added.{added_at as added_of}
-use Rattle.cjc_classes.specs.Tokens.Fields.{is_constant}
-use Rattle.cjc_classes.specs.Tokens.Members.{is_constructor}
-use Rattle.cjc_classes.specs.Tokens.Tokens.{Assigned, token_of_class}
-use Rattle.cjc_classes.specs.Components.Descriptor.{added_flags, class_flags, field_flags, flag_where}
-use Rattle.cjc_classes.specs.Components.Types.{nibbles_by}
+use Rattle.cjc_methods.specs.Tokens.Fields.{is_constant}
+use Rattle.cjc_methods.specs.Tokens.Members.{is_constructor}
+use Rattle.cjc_methods.specs.Tokens.Tokens.{Assigned, token_of_class}
+use Rattle.cjc_classes.specs.LowerComponents.Descriptor.{added_flags, class_flags, field_flags, flag_where}
+use Rattle.cjc_classes.specs.LowerComponents.Types.{nibbles_by}
 use Rattle.cjc_classes.specs.Descriptor.Working.Described.{each_from, number_in, token_in}
 use Rattle.cjc_verify.specs.Pairs.{is_card_type}
 use Rattle.cjc_verify.specs.declared.described.wanted.WantedClass.{WantedClass}

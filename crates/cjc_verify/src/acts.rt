@@ -8,11 +8,11 @@ ghost use Rattle.cjc_capread.specs.declared.tree.PoolEntry.TheVariants.{Classref
 ghost use Rattle.cjc_card_acts.specs.CardTypes.{numbers_type, type_by as typed_by, types_in};
 ghost use Rattle.cjc_card_acts.specs.Rows.{idle, number_words, unknown, with_number};
 ghost use Rattle.cjc_card_acts.specs.Told.{row_told, type_told};
-ghost use Rattle.cjc_card_calls.specs.CardFrame.Meanings.{letter_if, mode_of, use_of};
-ghost use Rattle.cjc_card_calls.specs.CardSemantics.Bytecode.Meanings.{Calls, Makes};
-ghost use Rattle.cjc_methods.specs.Check.Codes.Bodies.{IsAt, placed_of};
-ghost use Rattle.cjc_card_acts.specs.Frames.declared.acts.Act.{Act as Known};
-ghost use Rattle.cjc_card_acts.specs.Frames.declared.acts.Need.TheVariants.{ReferenceWord};
+ghost use Rattle.cjc_card_acts.specs.CardFrame.Meanings.{letter_if, mode_of, use_of};
+ghost use Rattle.cjc_card_acts.specs.CardSemantics.Bytecode.Meanings.{Calls, Makes};
+ghost use Rattle.cjc_methods.specs.LowerCheck.Codes.Bodies.{IsAt, placed_of};
+ghost use Rattle.cjc_card_acts.specs.LowerFrames.declared.acts.Act.{Act as Known};
+ghost use Rattle.cjc_card_acts.specs.LowerFrames.declared.acts.Need.TheVariants.{ReferenceWord};
 ghost use Rattle.cjc_verify.specs.ClassTypes.{class_type as type_of};
 ghost use Rattle.cjc_verify.specs.Instructions.{act, act_by, asking, by_interface, calling_interface, calling_through};
 ghost use Rattle.cjc_verify.specs.Instructions.{casting, class_in, exception_needs, jumping, last, making_numbers};

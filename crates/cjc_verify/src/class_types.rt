@@ -2,9 +2,9 @@
 //! Specification 2.2.2, section 6.13.4).
 
 ghost use Rattle.std.specs.Prelude.{◌≡◌, ◌∷◌, ◌++◌, ◌/◌, ◌%◌, [], IfOk, OnOk};
-ghost use Rattle.cjc_card_calls.specs.CardFrame.Objects.{class_of};
-ghost use Rattle.cjc_classes.specs.Components.Names.{ref_to};
-ghost use Rattle.cjc_classes.specs.Components.Types.{ref_nibbles};
+ghost use Rattle.cjc_card_acts.specs.CardFrame.Objects.{class_of};
+ghost use Rattle.cjc_classes.specs.LowerComponents.Names.{ref_to};
+ghost use Rattle.cjc_classes.specs.LowerComponents.Types.{ref_nibbles};
 ghost use Rattle.cjc_verify.specs.ClassTypes.{array_type, class_type};
 
 use cjc_bytes::{Bytes, NoMemory, Row};

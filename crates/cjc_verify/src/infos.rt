@@ -12,7 +12,7 @@ mod wanted;
 
 ghost use Rattle.std.specs.Prelude.{◌≡◌, Bool, IfOk};
 ghost use Rattle.cjc_check_rules.specs.Spots.{first};
-ghost use Rattle.cjc_classes.specs.Tokens.Tokens.{assigned};
+ghost use Rattle.cjc_methods.specs.Tokens.Tokens.{assigned};
 ghost use Rattle.cjc_verify.specs.Infos.{all_abstract_spots, all_info_spots, all_table_spots};
 
 use crate::infos::abstracts::{all_abstract_beside, unmade_of};

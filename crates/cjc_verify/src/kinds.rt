@@ -6,9 +6,9 @@ ghost use Rattle.cjc_capread.specs.Parts.{class_of as class_in_bytes};
 ghost use Rattle.cjc_capread.specs.declared.tree.ClassRef.TheVariants as refs;
 ghost use Rattle.cjc_card_acts.specs.CardTypes.{class_by, is_type_of, shape_by};
 ghost use Rattle.cjc_card_calls.specs.Lines.Lines.{AreLines};
-ghost use Rattle.cjc_card_calls.specs.CardFrame.Objects.{class_of, shape_of};
-ghost use Rattle.cjc_card_calls.specs.CardSemantics.Machine.Classes.{class_of as class_by_ref};
-ghost use Rattle.cjc_card_calls.specs.CardLink.Tables.{AreKept, loaded_of};
+ghost use Rattle.cjc_card_acts.specs.CardFrame.Objects.{class_of, shape_of};
+ghost use Rattle.cjc_card_acts.specs.CardSemantics.Machine.Classes.{class_of as class_by_ref};
+ghost use Rattle.cjc_card_calls.specs.LowerCardLink.Tables.{AreKept, loaded_of};
 
 use cjc_capread::ClassRef;
 use cjc_card_acts::frames::Subtypes;
@@ -104,8 +104,8 @@ pub(crate) struct Kinds<'a> {
 
 impl<'a> Model for Kinds<'a> {
     ghost use Rattle.cjc_card_calls.specs.Lines.Lines.{AreLines};
-    ghost use Rattle.cjc_card_calls.specs.CardSemantics.Machine.Loaded.{Loaded};
-    ghost use Rattle.cjc_card_calls.specs.CardLink.Tables.{AreKept, loaded_of};
+    ghost use Rattle.cjc_card_acts.specs.CardSemantics.Machine.Loaded.{Loaded};
+    ghost use Rattle.cjc_card_calls.specs.LowerCardLink.Tables.{AreKept, loaded_of};
 
     ghost Value = { Loaded };
 

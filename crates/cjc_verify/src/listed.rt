@@ -5,9 +5,9 @@ ghost use Rattle.std.specs.Prelude.{◌≡◌, ◌++◌, ◌-◌, drop, map, opt
 ghost use Rattle.std.specs.List.{filter, flat_map};
 ghost use Rattle.cjc_capread.specs.Decoder.Decoded.{header_of};
 ghost use Rattle.cjc_capread.specs.MethodHeader.{method_header as header_in};
-ghost use Rattle.cjc_methods.specs.Check.Codes.Bodies.{AreBodies, IsBody, IsCut, code_of, cut_of, placed_of};
-ghost use Rattle.cjc_card_calls.specs.CheckIndex.Lookup.Indexed.{IsIndexed};
-ghost use Rattle.cjc_card_calls.specs.CheckIndex.Lookup.Parts.{complete_of};
+ghost use Rattle.cjc_methods.specs.LowerCheck.Codes.Bodies.{AreBodies, IsBody, IsCut, code_of, cut_of, placed_of};
+ghost use Rattle.cjc_pairing.specs.CheckIndex.Lookup.Indexed.{IsIndexed};
+ghost use Rattle.cjc_pairing.specs.CheckIndex.Lookup.Parts.{complete_of};
 ghost use Rattle.cjc_check_rules.specs.Classes.{is_own_class};
 ghost use Rattle.cjc_check_rules.specs.Codes.{all_codes, methods_begin};
 ghost use Rattle.cjc_check_rules.specs.Complete.{AreSmall};

@@ -3,7 +3,7 @@
 
 ghost use Rattle.std.specs.Prelude.{◌≡◌, ◌++◌, option_to_list, IfOk, OnOk};
 ghost use Rattle.cjc_card_acts.specs.Told.{type_told};
-ghost use Rattle.cjc_card_calls.specs.CardFrame.Meanings.{letter_of};
+ghost use Rattle.cjc_card_acts.specs.CardFrame.Meanings.{letter_of};
 ghost use Rattle.cjc_verify.specs.Instructions.{calling, calling_on, getting, getting_static, object_needs};
 ghost use Rattle.cjc_verify.specs.Instructions.{object_reads, putting, putting_static};
 ghost use Rattle.cjc_verify.specs.Named.{is_outside, is_static_outside};

@@ -2,7 +2,7 @@
 //! section 6.9). Made by `listed`.
 
 ghost use Rattle.std.specs.Prelude.{map};
-ghost use Rattle.cjc_methods.specs.Check.Codes.Bodies.{IsBody, placed_of};
+ghost use Rattle.cjc_methods.specs.LowerCheck.Codes.Bodies.{IsBody, placed_of};
 ghost use Rattle.cjc_verify.specs.Working.Codes.{Ascend, ats};
 
 use cjc_capread::decoder::Header;

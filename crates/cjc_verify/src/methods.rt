@@ -5,8 +5,8 @@ ghost use Rattle.std.specs.Prelude.{◌≡◌, ◌++◌, Some, map, option_map, 
 ghost use Rattle.std.specs.List.{find};
 ghost use Rattle.std.specs.Option.{option_copied};
 ghost use Rattle.cjc_bytes.specs.AccessFlags.{is_interface};
-ghost use Rattle.cjc_classes.specs.Components.Descriptor.{no_member};
-ghost use Rattle.cjc_pairing.specs.ClassOrder.Classes.Numbers.{declared_at};
+ghost use Rattle.cjc_classes.specs.LowerComponents.Descriptor.{no_member};
+ghost use Rattle.cjc_classes.specs.ClassOrder.Classes.Numbers.{declared_at};
 ghost use Rattle.cjc_world.specs.Added.{added_at};
 ghost use Rattle.cjc_world.specs.Classes.{all_classes};
 ghost use Rattle.cjc_world.specs.Order.{class_order};

@@ -4,8 +4,8 @@
 ghost use Rattle.std.specs.Prelude.{◌≡◌, ◌==◌, option_map, position, slice_get, IfOk};
 ghost use Rattle.std.specs.List.{find};
 ghost use Rattle.std.specs.Option.{option_copied};
-ghost use Rattle.cjc_card_calls.specs.CardFrame.Objects.{class_of};
-ghost use Rattle.cjc_card_calls.specs.CardSemantics.Machine.Classes.{class_of as class_by_ref};
+ghost use Rattle.cjc_card_acts.specs.CardFrame.Objects.{class_of};
+ghost use Rattle.cjc_card_acts.specs.CardSemantics.Machine.Classes.{class_of as class_by_ref};
 ghost use Rattle.cjc_verify.specs.Named.{entry_of, exported};
 ghost use Rattle.cjc_verify.specs.Pairs.{class_at, method_at, nibbles_of};
 ghost use Rattle.cjc_verify.specs.Working.Methods.{facts_of};

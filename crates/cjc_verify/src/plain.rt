@@ -6,9 +6,9 @@ ghost use Rattle.cjc_capread.specs.Decoder.Decoded.{values};
 ghost use Rattle.cjc_card_acts.specs.CardTypes.{all_arrays};
 ghost use Rattle.cjc_card_acts.specs.Rows.{any_words, copying_below, idle, increasing, loading, pushing};
 ghost use Rattle.cjc_card_acts.specs.Rows.{storing, swapping_by, unknown, with_local, with_number};
-ghost use Rattle.cjc_card_calls.specs.CardFrame.Meanings.{letter_of};
-ghost use Rattle.cjc_card_acts.specs.Frames.declared.acts.Given.TheVariants.{ANull, ANumber};
-ghost use Rattle.cjc_card_acts.specs.Frames.declared.acts.Need.TheVariants.{OfArrays};
+ghost use Rattle.cjc_card_acts.specs.CardFrame.Meanings.{letter_of};
+ghost use Rattle.cjc_card_acts.specs.LowerFrames.declared.acts.Given.TheVariants.{ANull, ANumber};
+ghost use Rattle.cjc_card_acts.specs.LowerFrames.declared.acts.Need.TheVariants.{OfArrays};
 ghost use Rattle.cjc_verify.specs.Working.Operands.{local_by, natural, natural_of};
 
 use cjc_bytes::{Bytes, NoMemory, Row};

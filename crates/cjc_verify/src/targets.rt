@@ -3,9 +3,9 @@
 
 ghost use Rattle.std.specs.Prelude.{◌≡◌, ◌++◌, ◌∷◌, [], map, OnOk};
 ghost use Rattle.cjc_capread.specs.Decoder.Decoded.{instruction_of, numbers_of, values};
-ghost use Rattle.cjc_card_calls.specs.CardSemantics.Machine.Operations.{moved};
-ghost use Rattle.cjc_methods.specs.Check.Codes.Bodies.{IsAt};
-ghost use Rattle.cjc_methods.specs.Check.Jumps.Offsets.{is_switch, offsets_in};
+ghost use Rattle.cjc_card_acts.specs.CardSemantics.Machine.Operations.{moved};
+ghost use Rattle.cjc_methods.specs.LowerCheck.Codes.Bodies.{IsAt};
+ghost use Rattle.cjc_methods.specs.LowerCheck.Jumps.Offsets.{is_switch, offsets_in};
 ghost use Rattle.cjc_check_rules.specs.Instructions.{default_of, is_jump, jumps};
 
 use cjc_bytes::{NoMemory, Row};

@@ -3,7 +3,7 @@ use Rattle.std.proofs.Common.{◌≡◌, ℕ, Bool, true, false, List, [], ◌�
 use Rattle.std.proofs.Common.{None, refl, sym, subst, ℤ, pos, negsuc}
 use Rattle.std.specs.Prelude.{if◌then◌else◌}
 use Rattle.std.proofs.lemmas.List.Elements.{All-weaker, All-replicate, All-set}
-use Rattle.cjc_frames.specs.Range.Words.{low_word, low_byte}
+use Rattle.cjc_card_semantics.specs.Range.Words.{low_word, low_byte}
 use Rattle.cjc_script.specs.declared.value.Value.{Value}
 use Rattle.cjc_script.specs.declared.value.Value.TheVariants.{Num, Null, Obj}
 use Rattle.cjc_script.specs.Sorts.{Element}

@@ -5,8 +5,8 @@ use Rattle.std.proofs.Common.{arith, inl, nat_lt, ltb-true, ltb-false, length-ap
 use Rattle.std.specs.Prelude.{◌==◌, if◌then◌else◌, option_and_then}
 use Rattle.std.proofs.lemmas.List.Elements.{All-nil, All-cons}
 use Rattle.std.specs.Int.{w8, w16, cast_signed}
-use Rattle.cjc_card_acts.specs.CapRead.declared.tree.ArrayInit.{ArrayInit}
-use Rattle.cjc_card_acts.specs.CapRead.declared.tree.StaticField.{StaticField}
+use Rattle.cjc_card_semantics.specs.CapRead.declared.tree.ArrayInit.{ArrayInit}
+use Rattle.cjc_card_semantics.specs.CapRead.declared.tree.StaticField.{StaticField}
 use Rattle.cjc_script.specs.declared.value.Value.{Value}
 use Rattle.cjc_script.specs.declared.value.Value.TheVariants.{Null, Obj}
 use Rattle.cjc_script.specs.Sorts.{Element, Booleans, Bytes, Shorts, Ints}

@@ -5,8 +5,8 @@ use Rattle.std.proofs.Common.{option_map, filter_map, ◌⊎◌}
 use Rattle.std.proofs.lemmas.Bool.Decides.{nat_tests}
 use Rattle.std.specs.Prelude.{Contains, if◌then◌else◌}
 use Rattle.std.specs.List.{AllZip, cons_option}
-use Rattle.cjc_frames.specs.Fixpoint.declared.flow.Edge.{Edge}
-use Rattle.cjc_frames.specs.Fixpoint.Tables.{HasRow, Covers}
+use Rattle.cjc_types.specs.Fixpoint.declared.flow.Edge.{Edge}
+use Rattle.cjc_types.specs.Fixpoint.Tables.{HasRow, Covers}
 use Rattle.cjc_card_semantics.specs.Machine.Loaded.{Loaded}
 use Rattle.cjc_types.specs.declared.cell.Cell.{Cell}
 use Rattle.cjc_types.specs.declared.state.Stack.{Stack}

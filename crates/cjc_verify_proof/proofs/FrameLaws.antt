@@ -6,9 +6,9 @@ use Rattle.std.proofs.Common.{◌⊎◌, ◌∙◌, arith, replicate, ◌==◌, 
 use Rattle.std.proofs.lemmas.Bool.Decides.{nat_tests}
 use Rattle.std.specs.Prelude.{Contains, if◌then◌else◌, reverse, option_and_then, option_to_list}
 use Rattle.std.specs.List.{AllZip}
-use Rattle.cjc_frames.specs.Fixpoint.Tables.{HasRow}
-use Rattle.cjc_card_acts.specs.CapRead.declared.tree.Handler.{Handler}
-use Rattle.cjc_card_acts.specs.CapRead.declared.tree.PoolEntry.{PoolEntry}
+use Rattle.cjc_types.specs.Fixpoint.Tables.{HasRow}
+use Rattle.cjc_card_semantics.specs.CapRead.declared.tree.Handler.{Handler}
+use Rattle.cjc_card_semantics.specs.CapRead.declared.tree.PoolEntry.{PoolEntry}
 use Rattle.cjc_script.specs.declared.value.Value.{Value}
 use Rattle.cjc_script.specs.declared.value.Value.TheVariants.{Obj}
 use Rattle.cjc_script.specs.Sorts.{Shape, OfClass}

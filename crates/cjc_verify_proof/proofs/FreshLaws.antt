@@ -2,11 +2,11 @@
 use Rattle.std.proofs.Common.{◌≡◌, ℕ, zero, suc, ◌+◌, ◌<◌, ◌≤◌, refl, sym, ap, subst, ◌∙◌, arith, Bool, true, false}
 use Rattle.std.proofs.Common.{List, [], ◌∷◌, ◌++◌, length, map, pos, inl, inr, Option, Some, None, slice_get}
 use Rattle.std.specs.Prelude.{if◌then◌else◌, ◌==◌, option_map, option_and_then, option_to_list, is_some}
-use Rattle.cjc_card_acts.specs.CapRead.declared.tree.ClassEntry.{ClassEntry}
+use Rattle.cjc_card_semantics.specs.CapRead.declared.tree.ClassEntry.{ClassEntry}
 use Rattle.cjc_script.specs.declared.value.Value.{Value}
 use Rattle.cjc_script.specs.declared.value.Value.TheVariants.{Num, Null}
 use Rattle.cjc_card_semantics.specs.Bytecode.Effects.{Slot, slot_of}
-use Rattle.cjc_card_acts.specs.CapRead.declared.tree.ExportedClass.{ExportedClass}
+use Rattle.cjc_card_semantics.specs.CapRead.declared.tree.ExportedClass.{ExportedClass}
 use Rattle.cjc_card_semantics.specs.Machine.Loaded.{Loaded, Part, Import, OfGroup, OfFile}
 use Rattle.cjc_card_semantics.specs.Machine.Classes.{Class, Own, External, Field, Info, IsInterface, IsClass}
 use Rattle.cjc_card_semantics.specs.Machine.Classes.{all_supers}
@@ -16,8 +16,8 @@ use Rattle.cjc_card_semantics.specs.Machine.Classes.{is_reference_token, number_
 use Rattle.cjc_card_semantics.specs.Machine.Classes.{own_slots}
 use Rattle.cjc_card_semantics.specs.Machine.Classes.{same_class, same_field, slots_from, slots_upwards, some_of, supers}
 use Rattle.cjc_card_semantics.specs.Machine.Classes.{superclass, superclass_by, where_there, imported_class, import_of}
-use Rattle.cjc_card_acts.specs.CapRead.declared.tree.ClassRef.{ClassRef}
-use Rattle.cjc_card_acts.specs.CapRead.declared.tree.ClassRef.TheVariants.{Inside, Outside}
+use Rattle.cjc_card_semantics.specs.CapRead.declared.tree.ClassRef.{ClassRef}
+use Rattle.cjc_card_semantics.specs.CapRead.declared.tree.ClassRef.TheVariants.{Inside, Outside}
 use Rattle.cjc_card_acts.specs.CardTypes.{ValueType, Void, Boolean, Byte, Short, Int, Reference}
 use Rattle.cjc_verify_proof.specs.Values.{IsValue, Holds}
 use Rattle.cjc_verify_proof.specs.Memories.{FieldTypes, AreSlots, SupersStand, begins_as, IsDeclared, AreDeclared}

@@ -4,7 +4,7 @@ use Rattle.std.proofs.Common.{◌==◌, List, [], ◌∷◌, ◌++◌, length, s
 use Rattle.std.proofs.Common.{subst, arith, ℤ, pos, negsuc, leb-false, ltb-false, eqb-true}
 use Rattle.std.specs.Prelude.{if◌then◌else◌, option_map}
 use Rattle.std.specs.List.{list_all}
-use Rattle.cjc_frames.specs.Range.Words.{low_word}
+use Rattle.cjc_card_semantics.specs.Range.Words.{low_word}
 use Rattle.cjc_script.specs.declared.value.Value.{Value}
 use Rattle.cjc_script.specs.declared.value.Value.TheVariants.{Num, Null, Obj}
 use Rattle.cjc_script.specs.Sorts.{Element, Booleans, Bytes, Shorts, Ints, Shape, OfNumbers}

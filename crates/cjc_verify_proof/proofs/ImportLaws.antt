@@ -3,8 +3,8 @@ use Rattle.std.proofs.Common.{◌≡◌, ◌&&◌, ℕ, Bool, true, false, List,
 use Rattle.std.proofs.Common.{subst, ◌∙◌}
 use Rattle.std.specs.Prelude.{if◌then◌else◌, option_and_then, codes, reverse, Contains}
 use Rattle.std.specs.Str.{bytes_eq}
-use Rattle.cjc_frames.specs.Bytes.Spots.{desc_of, bad_at, parts_of, after, types_from}
-use Rattle.cjc_frames.specs.Bytes.declared.fault.MemberId.{MemberId}
+use Rattle.cjc_script.specs.Bytes.Spots.{desc_of, bad_at, parts_of, after, types_from}
+use Rattle.cjc_script.specs.Bytes.declared.fault.MemberId.{MemberId}
 use Rattle.cjc_script.specs.declared.value.Value.{Value}
 use Rattle.cjc_script.specs.declared.script.Reply.{Reply}
 use Rattle.cjc_script.specs.declared.script.Reply.TheVariants.{Give, Throw}

@@ -5,7 +5,7 @@ use Rattle.std.specs.Prelude.{if◌then◌else◌}
 use Rattle.cjc_script.specs.declared.value.Value.{Value}
 use Rattle.cjc_script.specs.declared.value.Value.TheVariants.{Num, Null, Obj}
 use Rattle.cjc_script.specs.Sorts.{Shape}
-use Rattle.cjc_frames.specs.Range.Words.{low_word, low_byte}
+use Rattle.cjc_card_semantics.specs.Range.Words.{low_word, low_byte}
 use Rattle.cjc_card_semantics.specs.Bytecode.Numbers.{is_word, spelt_by}
 use Rattle.cjc_card_semantics.specs.Bytecode.Calculations.{Result, Fine, Fails, Wrong, Choice, Takes, Neither}
 use Rattle.cjc_card_semantics.specs.Bytecode.Calculations.{one_number}

@@ -2,12 +2,12 @@
 use Rattle.std.specs.Prelude.{◌≡◌, ℕ, ◌+◌, ◌*◌, Bool, true, false, List, [], ◌∷◌, Option, Some, None, pos}
 use Rattle.std.specs.Prelude.{if◌then◌else◌}
 use Rattle.std.proofs.Common.{refl, subst}
-use Rattle.cjc_card_acts.specs.CapRead.Opcodes.{Operand, Byte, Signed1, Signed2, Signed4, Index1, Index2, Form}
-use Rattle.cjc_card_acts.specs.CapRead.Opcodes.{form}
-use Rattle.cjc_card_acts.specs.CapRead.Decode.{Instruction, First, Front, operand, operands_of, put_first}
-use Rattle.cjc_card_acts.specs.CapRead.Decode.{first_and}
-use Rattle.cjc_card_acts.specs.CapRead.Decode.{before_table, in_table, is_whole, with_operands, with_table}
-use Rattle.cjc_card_acts.specs.CapRead.Decode.{decode, decode_as}
+use Rattle.cjc_card_semantics.specs.CapRead.Opcodes.{Operand, Byte, Signed1, Signed2, Signed4, Index1, Index2, Form}
+use Rattle.cjc_card_semantics.specs.CapRead.Opcodes.{form}
+use Rattle.cjc_card_semantics.specs.CapRead.Decode.{Instruction, First, Front, operand, operands_of, put_first}
+use Rattle.cjc_card_semantics.specs.CapRead.Decode.{first_and}
+use Rattle.cjc_card_semantics.specs.CapRead.Decode.{before_table, in_table, is_whole, with_operands, with_table}
+use Rattle.cjc_card_semantics.specs.CapRead.Decode.{decode, decode_as}
 use Rattle.cjc_verify_proof.specs.Beside.{IsRead, AreRead}
 
 read_one : (k : Operand) (bytes : List ℕ) (first : First) → operand k bytes ≡ Some first → IsRead k first.value

@@ -6,11 +6,11 @@ use Rattle.std.proofs.Common.{ltb-false}
 use Rattle.std.proofs.Common.{length-append, length-drop, append_assoc}
 use Rattle.std.specs.Prelude.{if◌then◌else◌}
 use Rattle.std.proofs.lemmas.Bool.{or_parts}
-use Rattle.cjc_frames.specs.Range.Words.{wide, low_word}
+use Rattle.cjc_card_semantics.specs.Range.Words.{wide, low_word}
 use Rattle.cjc_script.specs.declared.value.Value.{Value}
 use Rattle.cjc_script.specs.declared.value.Value.TheVariants.{Num, Null, Obj}
-use Rattle.cjc_card_acts.specs.CapRead.Opcodes.{Operand as Kind}
-use Rattle.cjc_card_acts.specs.CapRead.Opcodes as opcodes
+use Rattle.cjc_card_semantics.specs.CapRead.Opcodes.{Operand as Kind}
+use Rattle.cjc_card_semantics.specs.CapRead.Opcodes as opcodes
 use Rattle.cjc_types.specs.declared.cell.Cell.{Cell}
 use Rattle.cjc_types.specs.declared.cell.Cell.TheVariants.{Number, Refs, Unusable}
 use Rattle.cjc_types.specs.declared.state.Stack.TheVariants.{Cells}

@@ -3,14 +3,14 @@ use Rattle.std.proofs.Common.{◌≡◌, ◌+◌, ◌==◌, ◌&&◌, ℕ, zero,
 use Rattle.std.proofs.Common.{◌++◌, map, nat_le, slice_get, Option, Some, None, refl, sym, ap, subst, arith, ℤ, pos}
 use Rattle.std.specs.Prelude.{◌+ℤ◌, if◌then◌else◌, option_and_then}
 use Rattle.std.proofs.lemmas.Bool.Decides.{nat_tests}
-use Rattle.cjc_card_acts.specs.CapRead.Card as card
-use Rattle.cjc_card_acts.specs.CapRead.Opcodes.{Operand, Signed2, Index2, Form, form, forms}
-use Rattle.cjc_card_acts.specs.CapRead.declared.tree.ClassRef.TheVariants.{Inside}
-use Rattle.cjc_card_acts.specs.CapRead.declared.tree.StaticRef.TheVariants as statics
-use Rattle.cjc_card_acts.specs.CapRead.declared.tree.PoolEntry.{PoolEntry}
-use Rattle.cjc_card_acts.specs.CapRead.declared.tree.PoolEntry.TheVariants.{Classref, InstanceFieldref}
-use Rattle.cjc_card_acts.specs.CapRead.declared.tree.PoolEntry.TheVariants.{VirtualMethodref, SuperMethodref}
-use Rattle.cjc_card_acts.specs.CapRead.declared.tree.PoolEntry.TheVariants.{StaticFieldref, StaticMethodref}
+use Rattle.cjc_card_semantics.specs.CapRead.Card as card
+use Rattle.cjc_card_semantics.specs.CapRead.Opcodes.{Operand, Signed2, Index2, Form, form, forms}
+use Rattle.cjc_card_semantics.specs.CapRead.declared.tree.ClassRef.TheVariants.{Inside}
+use Rattle.cjc_card_semantics.specs.CapRead.declared.tree.StaticRef.TheVariants as statics
+use Rattle.cjc_card_semantics.specs.CapRead.declared.tree.PoolEntry.{PoolEntry}
+use Rattle.cjc_card_semantics.specs.CapRead.declared.tree.PoolEntry.TheVariants.{Classref, InstanceFieldref}
+use Rattle.cjc_card_semantics.specs.CapRead.declared.tree.PoolEntry.TheVariants.{VirtualMethodref, SuperMethodref}
+use Rattle.cjc_card_semantics.specs.CapRead.declared.tree.PoolEntry.TheVariants.{StaticFieldref, StaticMethodref}
 use Rattle.cjc_script.specs.Sorts.{Element, Booleans, Bytes, Shorts, Ints, OfNumbers}
 use Rattle.cjc_card_semantics.specs.Bytecode.Calculations.{Test}
 use Rattle.cjc_card_semantics.specs.Bytecode.Effects.{Letter, Arm, Pick, Touch, Return}
@@ -23,8 +23,8 @@ use Rattle.cjc_card_acts.specs.Rows.{Jumps, Switches, Uses}
 use Rattle.cjc_card_acts.specs.Rows.{idle, known_row, number_words}
 use Rattle.cjc_card_acts.specs.Rows.{row, rows}
 use Rattle.cjc_card_acts.specs.CardTypes.{ValueType, is_returned_by, needs_of, numbers_type, shape_by}
-use Rattle.cjc_card_acts.specs.LowerCheckRules.Spots.{lies_between}
-use Rattle.cjc_card_acts.specs.LowerCheckRules.Instructions.{default_of, is_jump, is_needed_by, pair_offsets}
+use Rattle.cjc_card_acts.specs.CheckRules.Spots.{lies_between}
+use Rattle.cjc_card_acts.specs.CheckRules.Instructions.{default_of, is_jump, is_needed_by, pair_offsets}
 use Rattle.cjc_verify_proof.specs.Beside.{BesideTest, AreRead}
 use Rattle.cjc_verify_proof.specs.Control.{switched_words}
 use Rattle.cjc_verify_proof.specs.Frames.{Program}

@@ -8,7 +8,7 @@ use Rattle.std.specs.Int.RustNames.{int_le}
 use Rattle.std.proofs.lemmas.List.Elements.{All-set}
 use Rattle.std.specs.Prelude.{if◌then◌else◌}
 use Rattle.std.proofs.lemmas.Bool.{and_from}
-use Rattle.cjc_frames.specs.Range.Words.{low_word, low_byte}
+use Rattle.cjc_card_semantics.specs.Range.Words.{low_word, low_byte}
 use Rattle.cjc_script.specs.declared.value.Value.{Value}
 use Rattle.cjc_script.specs.declared.value.Value.TheVariants.{Num, Null, Obj}
 use Rattle.cjc_script.specs.Sorts.{Element, Booleans, Bytes, Shorts, Ints}

@@ -3,8 +3,8 @@ use Rattle.std.specs.Prelude.{ℕ, zero, suc, slice_get, option_and_then, true, 
 use Rattle.std.specs.Prelude.{None, pos, negsuc}
 use Rattle.std.specs.Int.{w16, w32, int_bit_and, int_bit_or, int_bit_xor}
 use Rattle.std.specs.Int.RustNames.{int_div, int_rem, int_lt, int_le}
-use Rattle.cjc_frames.specs.Range.Words.{low_word, low_byte}
-use Rattle.cjc_card_acts.specs.CapRead.Opcodes.{Form, forms, form, Signed1, Signed2, Signed4}
+use Rattle.cjc_card_semantics.specs.Range.Words.{low_word, low_byte}
+use Rattle.cjc_card_semantics.specs.CapRead.Opcodes.{Form, forms, form, Signed1, Signed2, Signed4}
 use Rattle.cjc_card_semantics.specs.Bytecode.Numbers.{is_zero, same_number, sum, difference, product, negated}
 use Rattle.cjc_card_semantics.specs.Bytecode.Numbers.{shifted_left, shifted_right, shifted_unsigned, compared}
 use Rattle.cjc_card_semantics.specs.Bytecode.Calculations.{flipped}

@@ -1,8 +1,8 @@
 -- What a row of the table of opcodes may stand beside: the meaning of its opcode and the form of its operands.
 use Rattle.std.specs.Prelude.{ℕ, Bool, true, false, List, [], ◌∷◌, Option, Some, None, ℤ, pos, negsuc}
-use Rattle.cjc_card_acts.specs.CapRead.Opcodes.{Operand, Signed1, Signed2, Signed4, Index1, Index2, Form, Fields}
-use Rattle.cjc_card_acts.specs.CapRead.Opcodes.{Table, Lookup}
-use Rattle.cjc_card_acts.specs.CapRead.Opcodes as opcodes
+use Rattle.cjc_card_semantics.specs.CapRead.Opcodes.{Operand, Signed1, Signed2, Signed4, Index1, Index2, Form, Fields}
+use Rattle.cjc_card_semantics.specs.CapRead.Opcodes.{Table, Lookup}
+use Rattle.cjc_card_semantics.specs.CapRead.Opcodes as opcodes
 use Rattle.cjc_card_semantics.specs.Bytecode.Calculations.{Calculation, Test}
 use Rattle.cjc_card_semantics.specs.Bytecode.Calculations as machine
 use Rattle.cjc_card_semantics.specs.Bytecode.Effects.{Letter, Reference, Short, Int, Load, Store, Length, Throw}

@@ -3,9 +3,9 @@ use Rattle.std.specs.Prelude.{Bool}
 use Rattle.std.specs.Prelude.{◌≡◌, ℕ, suc, zero, ◌+◌, true, false, List, [], ◌∷◌, length, drop, slice_get, Option}
 use Rattle.std.specs.Prelude.{Some, Contains}
 use Rattle.std.specs.List.{AllZip}
-use Rattle.cjc_frames.specs.Fixpoint.Tables.{HasRow, IsClosed}
-use Rattle.cjc_card_acts.specs.CapRead.declared.tree.Handler.{Handler}
-use Rattle.cjc_card_acts.specs.CapRead.declared.tree.PoolEntry.{PoolEntry}
+use Rattle.cjc_types.specs.Fixpoint.Tables.{HasRow, IsClosed}
+use Rattle.cjc_card_semantics.specs.CapRead.declared.tree.Handler.{Handler}
+use Rattle.cjc_card_semantics.specs.CapRead.declared.tree.PoolEntry.{PoolEntry}
 use Rattle.cjc_script.specs.declared.report.Outcome.{Outcome}
 use Rattle.cjc_script.specs.declared.report.Outcome.TheVariants.{Done, Running, Waiting, Unfit, Stuck}
 use Rattle.cjc_script.specs.Sorts.{OfClass}

@@ -1,6 +1,6 @@
 -- What instructions ask of the machine beside what they take and give, where the constant pool is read.
 use Rattle.std.specs.Prelude.{◌≡◌, ℕ, Bool, true, false, List, [], ◌∷◌, ◌++◌, map, Option, Some, ℤ}
-use Rattle.cjc_card_acts.specs.CapRead.Opcodes.{Operand}
+use Rattle.cjc_card_semantics.specs.CapRead.Opcodes.{Operand}
 use Rattle.cjc_script.specs.Sorts.{Element, Shape, OfClass, OfNumbers, OfReferences}
 use Rattle.cjc_card_semantics.specs.Bytecode.Calculations.{Calculation, Test}
 use Rattle.cjc_card_semantics.specs.Bytecode.Effects.{Letter, Arm, Operation, Do, Branch, Pick, Touch, Load, Store}

@@ -14,5 +14,3 @@ pub mod Runs
 pub mod Values
 pub mod Memories
 pub mod Uses
--- Definitions of lower crates, for those above.
-pub mod Types

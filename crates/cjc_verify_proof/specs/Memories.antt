@@ -1,10 +1,10 @@
 -- What arrays, objects and static cells hold, by the types of the fields of a package.
 use Rattle.std.specs.Prelude.{◌≡◌, ◌≤◌, ◌<◌, ◌+◌, ◌*◌, ℕ, Bool, true, false, List, length, map, slice_get, Option}
 use Rattle.std.specs.Prelude.{Some}
-use Rattle.cjc_card_acts.specs.CapRead.declared.tree.ArrayInit.{ArrayInit}
-use Rattle.cjc_card_acts.specs.CapRead.declared.tree.StaticField.{StaticField}
-use Rattle.cjc_card_acts.specs.CapRead.declared.tree.ClassEntry.{ClassEntry}
-use Rattle.cjc_card_acts.specs.CapRead.declared.tree.ClassRef.{ClassRef}
+use Rattle.cjc_card_semantics.specs.CapRead.declared.tree.ArrayInit.{ArrayInit}
+use Rattle.cjc_card_semantics.specs.CapRead.declared.tree.StaticField.{StaticField}
+use Rattle.cjc_card_semantics.specs.CapRead.declared.tree.ClassEntry.{ClassEntry}
+use Rattle.cjc_card_semantics.specs.CapRead.declared.tree.ClassRef.{ClassRef}
 use Rattle.cjc_script.specs.Sorts.{OfNumbers}
 use Rattle.cjc_card_semantics.specs.Bytecode.Effects.{HeapObject, Numbers, References, Object, Slot, Memory, Effect}
 use Rattle.cjc_card_semantics.specs.Bytecode.Effects.{slot_of, Go, Raise, Toss, Invoke, Leave, Stick, Letter}

@@ -1,6 +1,6 @@
 -- Programs whose instructions are what their acts say, and what their runs come to.
 use Rattle.std.specs.Prelude.{◌≡◌, ℕ, true, false, List, [], map, slice_get, Option, Some, None, Contains}
-use Rattle.cjc_frames.specs.Bytes.declared.fault.MemberId.{MemberId}
+use Rattle.cjc_script.specs.Bytes.declared.fault.MemberId.{MemberId}
 use Rattle.cjc_script.specs.Sorts.{Shape, Signature, signature_of}
 use Rattle.cjc_card_semantics.specs.Bytecode.Machine.{Start, Fetched}
 use Rattle.cjc_card_semantics.specs.Machine.Loaded.{Loaded}
@@ -9,7 +9,7 @@ use Rattle.cjc_card_semantics.specs.Machine.Statics.{StaticCell, first_memory}
 use Rattle.cjc_card_semantics.specs.Machine.Operations.{Callee}
 use Rattle.cjc_card_semantics.specs.Machine.Methods.{Code, fetch}
 use Rattle.cjc_card_semantics.specs.Machine.Calls.{called, sent}
-use Rattle.cjc_frames.specs.Fixpoint.Tables.{HasRow}
+use Rattle.cjc_types.specs.Fixpoint.Tables.{HasRow}
 use Rattle.cjc_types.specs.declared.state.State.{State}
 use Rattle.cjc_frames.specs.declared.acts.Step.{Step}
 use Rattle.cjc_frames.specs.Acts.{given}

@@ -1,11 +1,11 @@
 -- Which entries of the constant pool an instruction may use.
 use Rattle.std.specs.Prelude.{Bool, true, false, Option, Some, []}
 use Rattle.std.specs.Prelude.{◌∷◌}
-use Rattle.cjc_card_acts.specs.CapRead.Opcodes.{Operand, Index1, Index2, Form, Fields}
-use Rattle.cjc_card_acts.specs.CapRead.declared.tree.PoolEntry.{PoolEntry}
-use Rattle.cjc_card_acts.specs.CapRead.declared.tree.PoolEntry.TheVariants.{Classref, InstanceFieldref}
-use Rattle.cjc_card_acts.specs.CapRead.declared.tree.PoolEntry.TheVariants.{VirtualMethodref, SuperMethodref}
-use Rattle.cjc_card_acts.specs.CapRead.declared.tree.PoolEntry.TheVariants.{StaticFieldref, StaticMethodref}
+use Rattle.cjc_card_semantics.specs.CapRead.Opcodes.{Operand, Index1, Index2, Form, Fields}
+use Rattle.cjc_card_semantics.specs.CapRead.declared.tree.PoolEntry.{PoolEntry}
+use Rattle.cjc_card_semantics.specs.CapRead.declared.tree.PoolEntry.TheVariants.{Classref, InstanceFieldref}
+use Rattle.cjc_card_semantics.specs.CapRead.declared.tree.PoolEntry.TheVariants.{VirtualMethodref, SuperMethodref}
+use Rattle.cjc_card_semantics.specs.CapRead.declared.tree.PoolEntry.TheVariants.{StaticFieldref, StaticMethodref}
 use Rattle.cjc_card_semantics.specs.Bytecode.Meanings.{Use, Gets, Puts, GetsStatic, PutsStatic, Calls, Makes}
 use Rattle.cjc_card_semantics.specs.Bytecode.Meanings.{MakesReferences, Virtual, Special, Static}
 

@@ -3,7 +3,7 @@
 //! rule are never stuck.
 ghost use Rattle.std.specs.Prelude.{◌≡◌, ◌≤◌, ℕ, Bool, true, false, List, ◌++◌, length, take, reverse, Option, Some};
 ghost use Rattle.std.specs.Prelude.{Contains};
-ghost use Rattle.cjc_frames.specs.Bytes.declared.fault.MemberId.{MemberId};
+ghost use Rattle.cjc_script.specs.Bytes.declared.fault.MemberId.{MemberId};
 ghost use Rattle.cjc_script.specs.declared.value.Value.{Value};
 ghost use Rattle.cjc_script.specs.declared.script.Act.{Act};
 ghost use Rattle.cjc_script.specs.Sorts.{Sort, Signature, signature_of, result_fits};

@@ -2,8 +2,8 @@
 //! row needs, the machine is not stuck, and what it leaves is what the row gives. It has laws alone, for whoever proves
 //! that components which break no rule are never stuck. It knows no class and no constant pool.
 ghost use Rattle.std.specs.Prelude.{◌≡◌, ◌≤◌, ℕ, Bool, false, List, ◌∷◌, length, drop, Option, Some, ℤ};
-ghost use Rattle.cjc_card_acts.specs.CapRead.Opcodes.{Form, Operand, form};
-ghost use Rattle.cjc_card_acts.specs.CapRead.Decode.{Instruction, before_table, decode};
+ghost use Rattle.cjc_card_semantics.specs.CapRead.Opcodes.{Form, Operand, form};
+ghost use Rattle.cjc_card_semantics.specs.CapRead.Decode.{Instruction, before_table, decode};
 ghost use Rattle.cjc_script.specs.declared.value.Value.{Value};
 ghost use Rattle.cjc_types.specs.Cells.{IsCellBelow};
 ghost use Rattle.cjc_types.specs.declared.cell.Cell.{Cell};

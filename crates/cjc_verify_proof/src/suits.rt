@@ -2,10 +2,10 @@
 //! It has laws alone, for whoever proves that components which break no rule are never stuck.
 ghost use Rattle.std.specs.Prelude.{◌≡◌, ℕ, Bool, true, false, not, List, [], ◌∷◌, ◌++◌, map, Option, Some, ℤ};
 ghost use Rattle.std.specs.Prelude.{Contains, if◌then◌else◌, length};
-ghost use Rattle.cjc_card_acts.specs.CapRead.Card as card;
-ghost use Rattle.cjc_card_acts.specs.CapRead.Opcodes.{Operand, Signed2, Index2, form};
-ghost use Rattle.cjc_card_acts.specs.CapRead.declared.tree.PoolEntry.{PoolEntry};
-ghost use Rattle.cjc_frames.specs.Bytes.declared.fault.MemberId.{MemberId};
+ghost use Rattle.cjc_card_semantics.specs.CapRead.Card as card;
+ghost use Rattle.cjc_card_semantics.specs.CapRead.Opcodes.{Operand, Signed2, Index2, form};
+ghost use Rattle.cjc_card_semantics.specs.CapRead.declared.tree.PoolEntry.{PoolEntry};
+ghost use Rattle.cjc_script.specs.Bytes.declared.fault.MemberId.{MemberId};
 ghost use Rattle.cjc_script.specs.Sorts.{Element, OfNumbers, Signature, signature_of};
 ghost use Rattle.cjc_card_semantics.specs.Bytecode.Calculations.{Test};
 ghost use Rattle.cjc_card_semantics.specs.Bytecode.Effects.{Letter, Touch, Return};
@@ -21,8 +21,8 @@ ghost use Rattle.cjc_card_acts.specs.Rows.{Jumps, Switches, Uses, idle, number_w
 ghost use Rattle.cjc_card_acts.specs.CardTypes.{ValueType, is_returned_by, needs_of, needs_of_all, numbers_type};
 ghost use Rattle.cjc_card_acts.specs.CardTypes.{shape_by};
 ghost use Rattle.cjc_card_acts.specs.CardTypes.{words};
-ghost use Rattle.cjc_card_acts.specs.LowerCheckRules.Spots.{lies_between};
-ghost use Rattle.cjc_card_acts.specs.LowerCheckRules.Instructions.{default_of, is_jump, is_needed_by, pair_offsets};
+ghost use Rattle.cjc_card_acts.specs.CheckRules.Spots.{lies_between};
+ghost use Rattle.cjc_card_acts.specs.CheckRules.Instructions.{default_of, is_jump, is_needed_by, pair_offsets};
 ghost use Rattle.cjc_verify_proof.specs.Beside.{BesideTest, AreRead};
 ghost use Rattle.cjc_verify_proof.specs.Control.{switched_words};
 ghost use Rattle.cjc_verify_proof.specs.Calls.{receiver_needs, has_receiver, argument_cells, AreSorts, IsResult};

@@ -5,42 +5,42 @@ use Rattle.std.proofs.Common.{List, []}
 use Rattle.std.proofs.Common.{◌∷◌, length}
 use Rattle.std.specs.Prelude.{Some, slice_get}
 use Rattle.std.specs.List.{AllByRecursion}
-use Rattle.cjc_theorem.specs.Bytes.Descriptor.{IsClassName}
-use Rattle.cjc_theorem.specs.Bytes.Format.{FileSpells}
-use Rattle.cjc_theorem.specs.Bytes.declared.settings.FileLine.{FileLine}
+use Rattle.cjc_verified_proof.specs.Bytes.Descriptor.{IsClassName}
+use Rattle.cjc_verified_proof.specs.Bytes.Format.{FileSpells}
+use Rattle.cjc_verified_proof.specs.Bytes.declared.settings.FileLine.{FileLine}
 use Rattle.cjc_verified_proof.proofs.BytesBrokenRules.{no_breaks}
 use Rattle.cjc_verified_proof.proofs.BytesGets.{all_at}
 use Rattle.cjc_verified_proof.proofs.BytesPlain.{same_some}
 use Rattle.cjc_verified_proof.proofs.ClassFileFitting.{spelt_fits}
-use Rattle.cjc_theorem.specs.ClassFile.ClassFile.{class_file}
-use Rattle.cjc_theorem.specs.ClassFile.Fits as fits
-use Rattle.cjc_theorem.specs.ClassFile.declared.tree.ClassTree.{ClassTree}
-use Rattle.cjc_theorem.specs.Bytecode.PackageCodes.{all_codes}
-use Rattle.cjc_theorem.specs.Bytecode.ReadLaws.Members.{IsReadClass}
-use Rattle.cjc_verified_proof.specs.LowerExportFile.Writable.{IsWritable}
-use Rattle.cjc_verified_proof.specs.LowerExportFile.declared.tree.ExportTree.{ExportTree}
-use Rattle.cjc_theorem.specs.Judge.Judged.{IsJudged}
-use Rattle.cjc_theorem.specs.Judge.Rules.{AreWorld, files_spelt, has_applets, of_group, of_world, settings_of}
-use Rattle.cjc_theorem.specs.Judge.Rules.{world_files}
-use Rattle.cjc_theorem.specs.Judge.Spelt.{FileTree, IsRead, classes_of, exports_of, of_class, of_export}
-use Rattle.cjc_theorem.specs.Judge.Trees.{AllSpelt, FileIs}
-use Rattle.cjc_theorem.specs.Judge.declared.groups.Group.{Group}
-use Rattle.cjc_theorem.specs.Judge.declared.groups.Group.TheVariants as groups
-use Rattle.cjc_theorem.specs.Judge.declared.judged.Judged.{Judged}
+use Rattle.cjc_verified_proof.specs.ClassFile.ClassFile.{class_file}
+use Rattle.cjc_verified_proof.specs.ClassFile.Fits as fits
+use Rattle.cjc_verified_proof.specs.ClassFile.declared.tree.ClassTree.{ClassTree}
+use Rattle.cjc_verified_proof.specs.Bytecode.PackageCodes.{all_codes}
+use Rattle.cjc_verified_proof.specs.Bytecode.ReadLaws.Members.{IsReadClass}
+use Rattle.cjc_verified_proof.specs.ExportFile.Writable.{IsWritable}
+use Rattle.cjc_verified_proof.specs.ExportFile.declared.tree.ExportTree.{ExportTree}
+use Rattle.cjc_theorem.specs.LowerJudge.Judged.{IsJudged}
+use Rattle.cjc_theorem.specs.LowerJudge.Rules.{AreWorld, files_spelt, has_applets, of_group, of_world, settings_of}
+use Rattle.cjc_theorem.specs.LowerJudge.Rules.{world_files}
+use Rattle.cjc_theorem.specs.LowerJudge.Spelt.{FileTree, IsRead, classes_of, exports_of, of_class, of_export}
+use Rattle.cjc_theorem.specs.LowerJudge.Trees.{AllSpelt, FileIs}
+use Rattle.cjc_theorem.specs.LowerJudge.declared.groups.Group.{Group}
+use Rattle.cjc_theorem.specs.LowerJudge.declared.groups.Group.TheVariants as groups
+use Rattle.cjc_theorem.specs.LowerJudge.declared.judged.Judged.{Judged}
 use Rattle.cjc_theorem.proofs.JudgeFirsts.{all_spell}
-use Rattle.cjc_theorem.specs.List.Listed.{ListTree}
+use Rattle.cjc_verified_proof.specs.List.Listed.{ListTree}
 use Rattle.cjc_theorem.proofs.NarrowProofSpelt.{class_read}
 use Rattle.cjc_theorem.proofs.BytecodeMembers.{read_class}
-use Rattle.cjc_theorem.specs.ClassOrder.Classes.Numbers.{class_count}
+use Rattle.cjc_verified_proof.specs.ClassOrder.Classes.Numbers.{class_count}
 use Rattle.cjc_theorem.proofs.ShapeLimited as limited
 use Rattle.cjc_theorem.proofs.ShapeProofPackageNames.{package_named}
-use Rattle.cjc_verified_proof.specs.Subset.Checks.{check_breaks}
+use Rattle.cjc_theorem.specs.Subset.Checks.{check_breaks}
 use Rattle.cjc_theorem.proofs.FairExports.Listed.{names}
-use Rattle.cjc_theorem.specs.Tokens.Rules.{tested_breaks, token_breaks}
-use Rattle.cjc_theorem.specs.TokenProof.Tables.Sound.{AreFieldDescs, IsSound, export_count}
-use Rattle.cjc_theorem.specs.World.Files.{Files}
-use Rattle.cjc_theorem.specs.World.Rules.{breaks}
-use Rattle.cjc_theorem.specs.WorldProof.Files.{AreReadFiles}
+use Rattle.cjc_verified_proof.specs.Tokens.Rules.{tested_breaks, token_breaks}
+use Rattle.cjc_verified_proof.specs.TokenProof.Tables.Sound.{AreFieldDescs, IsSound, export_count}
+use Rattle.cjc_verified_proof.specs.World.Files.{Files}
+use Rattle.cjc_verified_proof.specs.World.Rules.{breaks}
+use Rattle.cjc_verified_proof.specs.WorldProof.Files.{AreReadFiles}
 use Rattle.cjc_verify_theorem.specs.Passed.{AreBytes, IsAmong}
 use Rattle.cjc_theorem.proofs.ShapeProofLines.{exports_few}
 use Rattle.cjc_theorem.proofs.ShapeSound.{lines_few}

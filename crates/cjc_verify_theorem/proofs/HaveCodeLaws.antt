@@ -3,49 +3,49 @@
 use Rattle.std.proofs.Common.{◌≡◌, ℕ, zero, suc, ◌+◌, ◌-◌, ◌<◌, refl, sym, ap, subst, ◌∙◌, arith, Bool, true, false}
 use Rattle.std.proofs.Common.{List, [], ◌∷◌, ◌++◌, length, map, slice_get, Some, None, ⊎_elim}
 use Rattle.std.specs.Prelude.{◌⊎◌, ◌||◌, not, if◌then◌else◌, option_and_then, unwrap_or}
-use Rattle.cjc_theorem.specs.Bytes.AccessFlags.{is_abstract, is_interface, is_static}
-use Rattle.cjc_theorem.specs.Bytes.declared.settings.Settings.{Settings}
+use Rattle.cjc_verified_proof.specs.Bytes.AccessFlags.{is_abstract, is_interface, is_static}
+use Rattle.cjc_verified_proof.specs.Bytes.declared.settings.Settings.{Settings}
 use Rattle.cjc_verified_proof.proofs.BytesGets.{in_front, mapped_at}
 use Rattle.cjc_verified_proof.proofs.BytesPlain.{same_some}
-use Rattle.cjc_verified_proof.specs.LowerCapRead.declared.tree.ClassDescriptor.{ClassDescriptor}
-use Rattle.cjc_theorem.specs.CheckRules.Codes.{whole_spots}
-use Rattle.cjc_theorem.specs.CheckRules.Complete.{Complete}
-use Rattle.cjc_theorem.specs.CheckRules.Described.{all_starts, classes_in_order}
-use Rattle.cjc_theorem.specs.Bytecode.ReadLaws.Members.{IsDescOf}
-use Rattle.cjc_theorem.specs.Bytecode.declared.method_code.MethodCode.{MethodCode}
-use Rattle.cjc_theorem.specs.Components.Descriptor.{as_added, method_in, methods_with_added, no_member}
-use Rattle.cjc_theorem.specs.Components.Paired.Pairs.{ArePaired}
-use Rattle.cjc_theorem.specs.Script.Sorts.{Signature, result_by, signature_by, signature_of, sort_of}
+use Rattle.cjc_verified_proof.specs.CapRead.declared.tree.ClassDescriptor.{ClassDescriptor}
+use Rattle.cjc_verified_proof.specs.CheckRules.Codes.{whole_spots}
+use Rattle.cjc_verified_proof.specs.CheckRules.Complete.{Complete}
+use Rattle.cjc_verified_proof.specs.CheckRules.Described.{all_starts, classes_in_order}
+use Rattle.cjc_verified_proof.specs.Bytecode.ReadLaws.Members.{IsDescOf}
+use Rattle.cjc_verified_proof.specs.Bytecode.declared.method_code.MethodCode.{MethodCode}
+use Rattle.cjc_verified_proof.specs.Components.Descriptor.{as_added, method_in, methods_with_added, no_member}
+use Rattle.cjc_verified_proof.specs.Components.Paired.Pairs.{ArePaired}
+use Rattle.cjc_verified_proof.specs.Script.Sorts.{Signature, result_by, signature_by, signature_of, sort_of}
 use Rattle.cjc_theorem.proofs.ShapeProofDescs.{member_desc}
 use Rattle.cjc_theorem.proofs.ShapeProofInterfaces.{are_asked}
 use Rattle.cjc_theorem.proofs.ShapeProofWorlds.{none_static}
-use Rattle.cjc_verified_proof.specs.Subset.Checks.{check_breaks}
-use Rattle.cjc_theorem.specs.Tokens.Members.{is_initialiser}
+use Rattle.cjc_theorem.specs.Subset.Checks.{check_breaks}
+use Rattle.cjc_verified_proof.specs.Tokens.Members.{is_initialiser}
 use Rattle.cjc_verified_proof.proofs.TokenProofClean.{own_name}
 use Rattle.cjc_verified_proof.proofs.TokenProofOrder.{order_in}
-use Rattle.cjc_theorem.specs.TokenProof.Tables.Sound.{IsSound}
-use Rattle.cjc_verified_proof.specs.LowerVerify.Pairs.{Described, Pair, described, described_among, described_in}
-use Rattle.cjc_verified_proof.specs.LowerVerify.Pairs.{member_of}
-use Rattle.cjc_verified_proof.specs.LowerVerify.Pairs.{pair_of}
-use Rattle.cjc_verified_proof.specs.LowerVerify.Verified.{IsVerified}
+use Rattle.cjc_verified_proof.specs.TokenProof.Tables.Sound.{IsSound}
+use Rattle.cjc_verified_proof.specs.Verify.Pairs.{Described, Pair, described, described_among, described_in}
+use Rattle.cjc_verified_proof.specs.Verify.Pairs.{member_of}
+use Rattle.cjc_verified_proof.specs.Verify.Pairs.{pair_of}
+use Rattle.cjc_verified_proof.specs.Verify.Verified.{IsVerified}
 use Rattle.cjc_verified_proof.specs.Suited.{HaveCode}
 use Rattle.cjc_verified_proof.proofs.DescribedLaws.{described_said, either_part, in_got}
 use Rattle.cjc_verified_proof.proofs.FoundLaws.{written_got}
 use Rattle.cjc_verified_proof.proofs.TokenProofWrittenCallsFlags.{static_same}
 use Rattle.cjc_theorem.proofs.VTableFiled.{get-has}
-use Rattle.cjc_theorem.specs.World.declared.found.Found.{Found}
-use Rattle.cjc_theorem.specs.World.declared.image.StaticImage.{StaticImage}
-use Rattle.cjc_theorem.specs.World.Added.{added, asked_by, by_token, declares_open, has_open, is_one_of, lacking}
-use Rattle.cjc_theorem.specs.World.Added.{methods_of}
-use Rattle.cjc_theorem.specs.World.Added.{own_methods, takes_added, with_token, without_initialiser}
-use Rattle.cjc_theorem.specs.World.Classes.{Class, Member, all_classes, class_named, method_of_class}
-use Rattle.cjc_theorem.specs.World.Files.{Files}
-use Rattle.cjc_theorem.specs.World.Interfaces.{gathered, known}
-use Rattle.cjc_theorem.specs.World.Lookup.{member_at}
-use Rattle.cjc_theorem.specs.World.Order.{class_order, methods_of_class, places, written}
-use Rattle.cjc_theorem.specs.World.Supertypes.{AreSupertypes, IsAcyclic, supertypes}
-use Rattle.cjc_theorem.specs.WorldProof.Calls.Solid.{IsOwn, IsSolid}
-use Rattle.cjc_theorem.specs.WorldProof.Files.{AreReadFiles}
+use Rattle.cjc_verified_proof.specs.World.declared.found.Found.{Found}
+use Rattle.cjc_verified_proof.specs.World.declared.image.StaticImage.{StaticImage}
+use Rattle.cjc_verified_proof.specs.World.Added.{added, asked_by, by_token, declares_open, has_open, is_one_of, lacking}
+use Rattle.cjc_verified_proof.specs.World.Added.{methods_of}
+use Rattle.cjc_verified_proof.specs.World.Added.{own_methods, takes_added, with_token, without_initialiser}
+use Rattle.cjc_verified_proof.specs.World.Classes.{Class, Member, all_classes, class_named, method_of_class}
+use Rattle.cjc_verified_proof.specs.World.Files.{Files}
+use Rattle.cjc_verified_proof.specs.World.Interfaces.{gathered, known}
+use Rattle.cjc_verified_proof.specs.World.Lookup.{member_at}
+use Rattle.cjc_verified_proof.specs.World.Order.{class_order, methods_of_class, places, written}
+use Rattle.cjc_verified_proof.specs.World.Supertypes.{AreSupertypes, IsAcyclic, supertypes}
+use Rattle.cjc_verified_proof.specs.WorldProof.Calls.Solid.{IsOwn, IsSolid}
+use Rattle.cjc_verified_proof.specs.WorldProof.Files.{AreReadFiles}
 
 -- ---- lists
 
@@ -211,7 +211,7 @@ module _ (name : List ℕ) (applets : Bool) (files : Files) (image : StaticImage
       ))
     where
       known_ones : List Class
-      known_ones = Rattle.cjc_theorem.specs.World.Interfaces.known (gathered false (supertypes w d.supers)
+      known_ones = Rattle.cjc_verified_proof.specs.World.Interfaces.known (gathered false (supertypes w d.supers)
           ++ gathered true (supertypes w d.interfaces))
 
   -- a method that Descriptor lists: one of its class's file, but no initialiser, or one that the class gets

@@ -4,33 +4,33 @@ use Rattle.std.proofs.Common.{◌≡◌, ℕ, zero, suc, refl, sym, ap, subst, �
 use Rattle.std.proofs.Common.{◌∷◌}
 use Rattle.std.specs.Prelude.{None, Some, codes as letters, is_some, slice_get}
 use Rattle.std.specs.List.{list_all}
-use Rattle.cjc_theorem.specs.Bytes.declared.settings.Settings.{Settings}
+use Rattle.cjc_verified_proof.specs.Bytes.declared.settings.Settings.{Settings}
 use Rattle.cjc_verified_proof.proofs.BytesBools.{and_true}
 use Rattle.cjc_verified_proof.proofs.BytesPlain.{same_some}
-use Rattle.cjc_verified_proof.specs.LowerCapRead.declared.tree.CapTree.{CapTree}
-use Rattle.cjc_theorem.specs.CheckRules.Complete.{Complete}
-use Rattle.cjc_theorem.specs.CheckRules.Consistent.{Sentence, is_true, of_complete, sentences, where_complete}
-use Rattle.cjc_theorem.specs.CheckRules.declared.spot.ComponentPlace.{ComponentPlace}
-use Rattle.cjc_theorem.specs.Bytecode.declared.method_code.MethodCode.{MethodCode}
-use Rattle.cjc_theorem.specs.CardSemantics.Machine.Classes.{number_named}
-use Rattle.cjc_theorem.specs.CardSemantics.Machine.Loaded.{Part}
-use Rattle.cjc_theorem.specs.Components.Package.{Package, world}
-use Rattle.cjc_theorem.specs.Components.Paired.Naming.{loaded_of, part_of}
-use Rattle.cjc_verified_proof.specs.LowerExportFile.Writable.{ClassFits, IsWritable}
-use Rattle.cjc_verified_proof.specs.LowerExportFile.declared.tree.ExportTree.{ExportTree}
-use Rattle.cjc_theorem.specs.Judge.Rules.{has_applets, settings_of}
-use Rattle.cjc_theorem.specs.Judge.declared.groups.Group.{Group}
-use Rattle.cjc_theorem.specs.Judge.declared.judged.Judged.{Judged}
-use Rattle.cjc_theorem.specs.List.Listed.{ListTree}
+use Rattle.cjc_verified_proof.specs.CapRead.declared.tree.CapTree.{CapTree}
+use Rattle.cjc_verified_proof.specs.CheckRules.Complete.{Complete}
+use Rattle.cjc_verified_proof.specs.CheckRules.Consistent.{Sentence, is_true, of_complete, sentences, where_complete}
+use Rattle.cjc_verified_proof.specs.CheckRules.declared.spot.ComponentPlace.{ComponentPlace}
+use Rattle.cjc_verified_proof.specs.Bytecode.declared.method_code.MethodCode.{MethodCode}
+use Rattle.cjc_verified_proof.specs.CardSemantics.Machine.Classes.{number_named}
+use Rattle.cjc_verified_proof.specs.CardSemantics.Machine.Loaded.{Part}
+use Rattle.cjc_verified_proof.specs.Components.Package.{Package, world}
+use Rattle.cjc_verified_proof.specs.Components.Paired.Naming.{loaded_of, part_of}
+use Rattle.cjc_verified_proof.specs.ExportFile.Writable.{ClassFits, IsWritable}
+use Rattle.cjc_verified_proof.specs.ExportFile.declared.tree.ExportTree.{ExportTree}
+use Rattle.cjc_theorem.specs.LowerJudge.Rules.{has_applets, settings_of}
+use Rattle.cjc_theorem.specs.LowerJudge.declared.groups.Group.{Group}
+use Rattle.cjc_theorem.specs.LowerJudge.declared.judged.Judged.{Judged}
+use Rattle.cjc_verified_proof.specs.List.Listed.{ListTree}
 use Rattle.cjc_theorem.proofs.ShapeProofInitialisers.{stand_once}
 use Rattle.cjc_theorem.proofs.ShapeProofSubtypes.{keeps_subtypes}
 use Rattle.cjc_theorem.proofs.ShapeProofTokens.{keeps_tokens}
-use Rattle.cjc_theorem.specs.LowerShapeProof.Written.Converted.{ExportsArePlain}
-use Rattle.cjc_verified_proof.specs.Subset.Checks.{check_breaks}
+use Rattle.cjc_theorem.specs.ShapeProof.Written.Converted.{ExportsArePlain}
+use Rattle.cjc_theorem.specs.Subset.Checks.{check_breaks}
 use Rattle.cjc_theorem.proofs.AlikeLaws.JoinedLaws.Faults.{faults_are_classes}
 use Rattle.cjc_theorem.proofs.AlikeLaws.NamedLaws.Exports.{exports_keep}
-use Rattle.cjc_theorem.specs.TokenProof.Tables.Sound.{AreFieldDescs, IsSound}
-use Rattle.cjc_theorem.specs.TokenProof.WrittenSends.Sends.{ExportsSend}
+use Rattle.cjc_verified_proof.specs.TokenProof.Tables.Sound.{AreFieldDescs, IsSound}
+use Rattle.cjc_verified_proof.specs.TokenProof.WrittenSends.Sends.{ExportsSend}
 use Rattle.cjc_verified_proof.proofs.TokenProofAbove.{entry_of_name, says_kinds}
 use Rattle.cjc_verified_proof.proofs.TokenProofTyping.{fields_typed}
 use Rattle.cjc_verified_proof.specs.Checked.{Checked, HasCode, IsChecked, pair}
@@ -48,18 +48,18 @@ use Rattle.cjc_verify_theorem.specs.NeverStuck.{IsNeverStuck}
 use Rattle.cjc_verify_theorem.specs.Passed.{IsPassed}
 use Rattle.cjc_verify_theorem.proofs.FileLaws as files_of
 use Rattle.cjc_verify_theorem.proofs.HaveCodeLaws.{have_code}
-use Rattle.cjc_verified_proof.specs.VTable.Kept.{BreaksNone, CallsAgree, ExportsAgree, IsKept, Keeps}
-use Rattle.cjc_verified_proof.specs.VTable.Laws.{KeepsRules}
-use Rattle.cjc_verified_proof.specs.VTable.Meant.{AreNumbered, PackageTokensMean, TokensMean}
-use Rattle.cjc_theorem.specs.World.Classes.{Class, all_classes, class_named, imported}
-use Rattle.cjc_theorem.specs.World.Files.{Files}
-use Rattle.cjc_theorem.specs.World.Rules.{breaks}
-use Rattle.cjc_theorem.specs.World.Subtype.{starts}
-use Rattle.cjc_theorem.specs.World.Supertypes.{AreSupertypes, IsAcyclic, Supertypes, supertypes}
-use Rattle.cjc_theorem.specs.World.declared.image.StaticImage.{StaticImage}
-use Rattle.cjc_theorem.specs.WorldProof.Calls.Solid.{IsSolid}
-use Rattle.cjc_theorem.specs.WorldProof.Initialisers.Values.{StandOnce}
-use Rattle.cjc_theorem.specs.WorldProof.Files.{ExportsAreSound, IsClean}
+use Rattle.cjc_theorem.specs.VTable.Kept.{BreaksNone, CallsAgree, ExportsAgree, IsKept, Keeps}
+use Rattle.cjc_theorem.specs.VTable.Laws.{KeepsRules}
+use Rattle.cjc_theorem.specs.VTable.Meant.{AreNumbered, PackageTokensMean, TokensMean}
+use Rattle.cjc_verified_proof.specs.World.Classes.{Class, all_classes, class_named, imported}
+use Rattle.cjc_verified_proof.specs.World.Files.{Files}
+use Rattle.cjc_verified_proof.specs.World.Rules.{breaks}
+use Rattle.cjc_verified_proof.specs.World.Subtype.{starts}
+use Rattle.cjc_verified_proof.specs.World.Supertypes.{AreSupertypes, IsAcyclic, Supertypes, supertypes}
+use Rattle.cjc_verified_proof.specs.World.declared.image.StaticImage.{StaticImage}
+use Rattle.cjc_verified_proof.specs.WorldProof.Calls.Solid.{IsSolid}
+use Rattle.cjc_verified_proof.specs.WorldProof.Initialisers.Values.{StandOnce}
+use Rattle.cjc_verified_proof.specs.WorldProof.Files.{ExportsAreSound, IsClean}
 use Rattle.cjc_verified_proof.proofs.WorldProofSolid.{solid as solid_of}
 use Rattle.cjc_theorem.proofs.VTableFiled.{get-has}
 use Rattle.cjc_theorem.proofs.VTableRead.{each-after}

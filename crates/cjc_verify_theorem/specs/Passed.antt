@@ -1,25 +1,25 @@
 -- Components that break no rule beside a package that breaks none.
 use Rattle.std.specs.Prelude.{◌≡◌, ◌<◌, ℕ, List, length, slice_get, Some}
 use Rattle.std.specs.List.{AllByRecursion}
-use Rattle.cjc_theorem.specs.Bytes.Format.{FileSpells}
-use Rattle.cjc_verified_proof.specs.LowerCapRead.Component.{component}
-use Rattle.cjc_verified_proof.specs.LowerCapRead.declared.tree.CapTree.{CapTree}
-use Rattle.cjc_verified_proof.specs.LowerCapRead.declared.tree.Component.{Component}
-use Rattle.cjc_verified_proof.specs.LowerCapRead.declared.tree.Component.TheVariants as components
-use Rattle.cjc_theorem.specs.CheckRules.Complete.{Complete, complete}
-use Rattle.cjc_theorem.specs.CheckRules.Consistent.{Consistent}
-use Rattle.cjc_theorem.specs.Clinit.Image.{IsImage}
-use Rattle.cjc_theorem.specs.Components.Paired.Pairs.{ArePaired}
-use Rattle.cjc_theorem.specs.Judge.Judged.{IsJudged}
-use Rattle.cjc_theorem.specs.Judge.Rules.{has_applets}
-use Rattle.cjc_theorem.specs.Judge.Spelt.{IsRead}
-use Rattle.cjc_theorem.specs.Judge.declared.groups.Group.{Group}
-use Rattle.cjc_theorem.specs.Judge.declared.groups.Group.TheVariants as groups
-use Rattle.cjc_theorem.specs.Judge.declared.judged.Judged.{Judged}
-use Rattle.cjc_theorem.specs.List.Listed.{ListTree}
-use Rattle.cjc_verified_proof.specs.LowerVerify.Pairs.{pair_of}
-use Rattle.cjc_verified_proof.specs.LowerVerify.Verified.{IsVerified}
-use Rattle.cjc_theorem.specs.World.declared.image.StaticImage.{StaticImage}
+use Rattle.cjc_verified_proof.specs.Bytes.Format.{FileSpells}
+use Rattle.cjc_verified_proof.specs.CapRead.Component.{component}
+use Rattle.cjc_verified_proof.specs.CapRead.declared.tree.CapTree.{CapTree}
+use Rattle.cjc_verified_proof.specs.CapRead.declared.tree.Component.{Component}
+use Rattle.cjc_verified_proof.specs.CapRead.declared.tree.Component.TheVariants as components
+use Rattle.cjc_verified_proof.specs.CheckRules.Complete.{Complete, complete}
+use Rattle.cjc_verified_proof.specs.CheckRules.Consistent.{Consistent}
+use Rattle.cjc_verified_proof.specs.Clinit.Image.{IsImage}
+use Rattle.cjc_verified_proof.specs.Components.Paired.Pairs.{ArePaired}
+use Rattle.cjc_theorem.specs.LowerJudge.Judged.{IsJudged}
+use Rattle.cjc_theorem.specs.LowerJudge.Rules.{has_applets}
+use Rattle.cjc_theorem.specs.LowerJudge.Spelt.{IsRead}
+use Rattle.cjc_theorem.specs.LowerJudge.declared.groups.Group.{Group}
+use Rattle.cjc_theorem.specs.LowerJudge.declared.groups.Group.TheVariants as groups
+use Rattle.cjc_theorem.specs.LowerJudge.declared.judged.Judged.{Judged}
+use Rattle.cjc_verified_proof.specs.List.Listed.{ListTree}
+use Rattle.cjc_verified_proof.specs.Verify.Pairs.{pair_of}
+use Rattle.cjc_verified_proof.specs.Verify.Verified.{IsVerified}
+use Rattle.cjc_verified_proof.specs.World.declared.image.StaticImage.{StaticImage}
 
 -- each of these files is bytes
 abbrev pub AreBytes : List (List ℕ) → Type 0

@@ -9,16 +9,16 @@ pub mod verify {
 }
 
 ghost use Rattle.std.specs.Prelude.{ℕ, List};
-ghost use Rattle.cjc_verified_proof.specs.LowerCapRead.declared.tree.CapTree.{CapTree};
-ghost use Rattle.cjc_theorem.specs.CheckRules.Complete.{Complete};
-ghost use Rattle.cjc_theorem.specs.Judge.Rules.{has_applets};
-ghost use Rattle.cjc_theorem.specs.Judge.declared.groups.Group.{Group};
-ghost use Rattle.cjc_theorem.specs.Judge.declared.judged.Judged.{Judged};
-ghost use Rattle.cjc_theorem.specs.List.Listed.{ListTree};
+ghost use Rattle.cjc_verified_proof.specs.CapRead.declared.tree.CapTree.{CapTree};
+ghost use Rattle.cjc_verified_proof.specs.CheckRules.Complete.{Complete};
+ghost use Rattle.cjc_theorem.specs.LowerJudge.Rules.{has_applets};
+ghost use Rattle.cjc_theorem.specs.LowerJudge.declared.groups.Group.{Group};
+ghost use Rattle.cjc_theorem.specs.LowerJudge.declared.judged.Judged.{Judged};
+ghost use Rattle.cjc_verified_proof.specs.List.Listed.{ListTree};
 ghost use Rattle.cjc_theorem.specs.FairExports.Fair.{ExportsAreFair};
 ghost use Rattle.cjc_verify_theorem.specs.NeverStuck.{IsNeverStuck};
 ghost use Rattle.cjc_verify_theorem.specs.Passed.{IsPassed};
-ghost use Rattle.cjc_theorem.specs.World.declared.image.StaticImage.{StaticImage};
+ghost use Rattle.cjc_verified_proof.specs.World.declared.image.StaticImage.{StaticImage};
 
 use cjc_theorem::fair_exports::fair_exports_are_sound;
 use cjc_theorem::vtable::package_laws;

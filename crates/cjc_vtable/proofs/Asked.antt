@@ -6,7 +6,7 @@ use Rattle.std.specs.Prelude.{option_to_list}
 use Rattle.std.specs.Str.{bytes_eq}
 use Rattle.std.proofs.lemmas.Option.{slice_get-map}
 use Rattle.cjc_world.specs.Classes.{Member, Class}
-use Rattle.cjc_tokens.specs.Bytes.AccessFlags.{is_public, is_protected}
+use Rattle.cjc_world.specs.Bytes.AccessFlags.{is_public, is_protected}
 use Rattle.cjc_world.specs.Supertypes.{Supertypes, supertypes, AreSupertypes, ends, unknown_here, known_here}
 use Rattle.cjc_world.specs.Interfaces.{Interface, where_listed, gathered, is_among, each_once, known}
 use Rattle.cjc_world.specs.Lookup.{is_called}

@@ -1,10 +1,10 @@
 -- The methods by token that a package's tokens keep of one of its classes.
 use Rattle.std.proofs.Common.{◌≡◌, ℕ, ◌+◌, ap, ◌∙◌, Bool, false, [], ◌∷◌}
 use Rattle.std.specs.Prelude.{if◌then◌else◌, slice_get, Some}
-use Rattle.cjc_order.specs.ClassFile.declared.tree.ClassTree.{ClassTree}
+use Rattle.cjc_world.specs.ClassFile.declared.tree.ClassTree.{ClassTree}
 use Rattle.cjc_world.specs.Files.{Files}
 use Rattle.cjc_world.specs.Classes.{declared, all_classes}
-use Rattle.cjc_tokens.specs.Bytes.AccessFlags.{is_interface}
+use Rattle.cjc_world.specs.Bytes.AccessFlags.{is_interface}
 use Rattle.cjc_tokens.specs.Lines.{line_at}
 use Rattle.cjc_tokens.specs.Methods.{interface_row}
 use Rattle.cjc_tokens.specs.Slots.{row, hidden_row}

@@ -2,7 +2,7 @@
 use Rattle.std.proofs.Common.{◌≡◌, ℕ, suc, refl, sym, ap, ◌∙◌, Bool, true, false, List, [], ◌∷◌, ◌++◌}
 use Rattle.std.specs.Prelude.{◌&&◌, ◌||◌, Option, Some, None, if◌then◌else◌, map, option_map, not}
 use Rattle.cjc_world.specs.Classes.{Member, Class}
-use Rattle.cjc_tokens.specs.Bytes.AccessFlags.{is_private, is_static}
+use Rattle.cjc_world.specs.Bytes.AccessFlags.{is_private, is_static}
 use Rattle.cjc_world.specs.Lookup.{is_called, is_selectable}
 use Rattle.cjc_tokens.specs.Members.{Signature, signature_of, same, has, signatures, is_exposed, is_virtual, is_shown}
 use Rattle.cjc_tokens.specs.Members.{is_hidden, all_methods, In, chosen, first_of, later}

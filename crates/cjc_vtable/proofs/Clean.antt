@@ -1,19 +1,19 @@
 -- What a class keeps where no break of the checks is of a rule.
 use Rattle.std.proofs.Common.{◌≡◌, ℕ, ◌+◌, refl, sym, subst, Bool, true, false, List, [], ◌∷◌, ◌++◌}
 use Rattle.std.specs.Prelude.{not, ◌&&◌, if◌then◌else◌, is_some}
-use Rattle.cjc_tokens.specs.Bytes.declared.settings.Settings.{Settings}
-use Rattle.cjc_order.specs.ClassFile.declared.tree.ClassTree.{ClassTree}
-use Rattle.cjc_order.specs.ClassFile.declared.tree.MethodTree.{MethodTree}
-use Rattle.cjc_subset.specs.Bytecode.declared.method_code.MethodCode.{MethodCode}
-use Rattle.cjc_order.specs.ExportFile.declared.tree.ExportClass.{ExportClass}
-use Rattle.cjc_order.specs.ExportFile.declared.tree.ExportTree.{ExportTree}
+use Rattle.cjc_world.specs.Bytes.declared.settings.Settings.{Settings}
+use Rattle.cjc_world.specs.ClassFile.declared.tree.ClassTree.{ClassTree}
+use Rattle.cjc_world.specs.ClassFile.declared.tree.MethodTree.{MethodTree}
+use Rattle.cjc_subset.specs.LowerBytecode.declared.method_code.MethodCode.{MethodCode}
+use Rattle.cjc_world.specs.ExportFile.declared.tree.ExportClass.{ExportClass}
+use Rattle.cjc_world.specs.ExportFile.declared.tree.ExportTree.{ExportTree}
 use Rattle.cjc_world.specs.Files.{Files}
 use Rattle.cjc_world.specs.Classes.{Class, declared, imported, all_classes}
-use Rattle.cjc_tokens.specs.Bytes.AccessFlags.{is_interface}
+use Rattle.cjc_world.specs.Bytes.AccessFlags.{is_interface}
 use Rattle.cjc_world.specs.Rules.{breaks}
-use Rattle.cjc_tokens.specs.Bytes.Breaks.{Break, foremost, RulePlace, broken_at, at, each_from, each}
+use Rattle.cjc_world.specs.Bytes.Breaks.{Break, foremost, RulePlace, broken_at, at, each_from, each}
 use Rattle.cjc_subset.specs.Places.{at_class, at_method}
-use Rattle.cjc_tokens.specs.Bytes.Order.{FilePlace, file_of}
+use Rattle.cjc_world.specs.Bytes.Order.{FilePlace, file_of}
 use Rattle.cjc_world.proofs.BytesBrokenRules.{among_left, among_right}
 use Rattle.cjc_subset.specs.Flags.{is_unfit_method}
 use Rattle.cjc_subset.specs.Types.{is_unsupported_desc, is_int_desc}

@@ -3,10 +3,10 @@ use Rattle.std.proofs.Common.{◌≡◌, ℕ, zero, suc, ◌+◌, arith, refl, s
 use Rattle.std.proofs.Common.{◌∷◌, ◌++◌, add-one, inl, inr, ⊎_elim}
 use Rattle.std.specs.Prelude.{drop, length, not, ◌==◌, ◌&&◌, ◌⊎◌, Option, Some, None, slice_get, if◌then◌else◌}
 use Rattle.std.specs.Str.{bytes_eq}
-use Rattle.cjc_tokens.specs.Bytes.declared.settings.FileLine.{FileLine}
-use Rattle.cjc_order.specs.ClassFile.declared.tree.ClassTree.{ClassTree}
-use Rattle.cjc_order.specs.ExportFile.declared.tree.ExportClass.{ExportClass}
-use Rattle.cjc_order.specs.ExportFile.declared.tree.ExportTree.{ExportTree}
+use Rattle.cjc_world.specs.Bytes.declared.settings.FileLine.{FileLine}
+use Rattle.cjc_world.specs.ClassFile.declared.tree.ClassTree.{ClassTree}
+use Rattle.cjc_world.specs.ExportFile.declared.tree.ExportClass.{ExportClass}
+use Rattle.cjc_world.specs.ExportFile.declared.tree.ExportTree.{ExportTree}
 use Rattle.cjc_world.specs.Files.{Files}
 use Rattle.cjc_world.specs.Classes.{Class, declared, imported, numbered, size, of_class_file, of_export_file}
 use Rattle.cjc_world.specs.Classes.{classes_from, all_classes, class_named, is_at, class_at}

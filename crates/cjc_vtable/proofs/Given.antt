@@ -5,7 +5,7 @@ use Rattle.std.specs.Prelude.{◌&&◌, ◌||◌, ◌⊎◌, Some, if◌then◌e
 use Rattle.std.specs.List.{list_any}
 use Rattle.std.proofs.lemmas.Bool.{or_left, or_right}
 use Rattle.cjc_world.specs.Classes.{Member, Class}
-use Rattle.cjc_tokens.specs.Bytes.AccessFlags.{is_private, is_static}
+use Rattle.cjc_world.specs.Bytes.AccessFlags.{is_private, is_static}
 use Rattle.cjc_world.proofs.BytesBools.{left4, second4}
 use Rattle.cjc_world.specs.Supertypes.{Supertypes, End, Unknown, Known, supertypes, AreSupertypes, ends, unknown_here}
 use Rattle.cjc_world.specs.Supertypes.{known_here, upwards}

@@ -6,13 +6,13 @@ use Rattle.std.specs.Prelude.{if◌then◌else◌, codes}
 use Rattle.std.specs.List.{list_any}
 use Rattle.std.specs.Str.{bytes_eq}
 use Rattle.std.proofs.lemmas.List.{append-nil}
-use Rattle.cjc_tokens.specs.Bytes.declared.settings.Settings.{Settings}
-use Rattle.cjc_subset.specs.Bytecode.declared.method_code.MethodCode.{MethodCode}
+use Rattle.cjc_world.specs.Bytes.declared.settings.Settings.{Settings}
+use Rattle.cjc_subset.specs.LowerBytecode.declared.method_code.MethodCode.{MethodCode}
 use Rattle.cjc_world.specs.Files.{Files}
 use Rattle.cjc_world.specs.Classes.{Member, Class, declared, imported, method_of_class, method_of_export, all_classes}
 use Rattle.cjc_world.specs.Classes.{class_named}
-use Rattle.cjc_tokens.specs.Bytes.AccessFlags.{has, is_abstract, is_interface, is_private, is_protected, is_public}
-use Rattle.cjc_tokens.specs.Bytes.AccessFlags.{is_static}
+use Rattle.cjc_world.specs.Bytes.AccessFlags.{has, is_abstract, is_interface, is_private, is_protected, is_public}
+use Rattle.cjc_world.specs.Bytes.AccessFlags.{is_static}
 use Rattle.cjc_world.proofs.BytesLists.{bytes_true}
 use Rattle.cjc_world.proofs.BytesBools.{or_left, or_right}
 use Rattle.cjc_world.specs.Supertypes.{Supertypes, End, Known, Lists, supertypes, AreSupertypes, IsAcyclic, Above}

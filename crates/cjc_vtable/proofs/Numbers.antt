@@ -4,11 +4,11 @@ use Rattle.std.proofs.Common.{◌++◌, length}
 use Rattle.std.specs.Prelude.{Option, Some, None, if◌then◌else◌, cond, option_map, slice_get, ◌==◌, ◌&&◌, not}
 use Rattle.std.specs.Str.{bytes_eq}
 use Rattle.std.proofs.lemmas.Bool.{eqb-true, eqb-false}
-use Rattle.cjc_tokens.specs.Bytes.declared.settings.FileLine.{FileLine}
+use Rattle.cjc_world.specs.Bytes.declared.settings.FileLine.{FileLine}
 use Rattle.cjc_world.proofs.BytesNumbers.{like_number}
-use Rattle.cjc_order.specs.ClassFile.declared.tree.ClassTree.{ClassTree}
-use Rattle.cjc_order.specs.ExportFile.declared.tree.ExportClass.{ExportClass}
-use Rattle.cjc_order.specs.ExportFile.declared.tree.ExportTree.{ExportTree}
+use Rattle.cjc_world.specs.ClassFile.declared.tree.ClassTree.{ClassTree}
+use Rattle.cjc_world.specs.ExportFile.declared.tree.ExportClass.{ExportClass}
+use Rattle.cjc_world.specs.ExportFile.declared.tree.ExportTree.{ExportTree}
 use Rattle.cjc_world.specs.Files.{Files}
 use Rattle.cjc_world.specs.Classes.{Class, declared, imported, numbered, size, of_class_file, of_export_file}
 use Rattle.cjc_world.specs.Classes.{classes_from, all_classes, class_named, class_at, is_at}

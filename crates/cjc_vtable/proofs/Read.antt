@@ -4,22 +4,22 @@ use Rattle.std.specs.Prelude.{◌&&◌, ◌==◌, length, Option, Some, None, op
 use Rattle.std.specs.Prelude.{codes}
 use Rattle.std.specs.Int.{w16, from_be_bytes}
 use Rattle.std.specs.Str.{bytes_eq}
-use Rattle.cjc_tokens.specs.Bytes.Format.{Spells, FileSpells, repeated, iterated}
-use Rattle.cjc_order.specs.ClassFile.declared.tree.ClassTree.{ClassTree}
-use Rattle.cjc_order.specs.ClassFile.declared.tree.MethodTree.{MethodTree}
-use Rattle.cjc_order.specs.ClassFile.Code.{CodeTree}
-use Rattle.cjc_order.specs.ClassFile.Entry.{Entry}
-use Rattle.cjc_order.specs.ClassFile.Items.{text_at}
-use Rattle.cjc_tokens.specs.Bytes.AccessFlags.{has, is_interface}
+use Rattle.cjc_world.specs.Bytes.Format.{Spells, FileSpells, repeated, iterated}
+use Rattle.cjc_world.specs.ClassFile.declared.tree.ClassTree.{ClassTree}
+use Rattle.cjc_world.specs.ClassFile.declared.tree.MethodTree.{MethodTree}
+use Rattle.cjc_world.specs.ClassFile.Code.{CodeTree}
+use Rattle.cjc_world.specs.ClassFile.Entry.{Entry}
+use Rattle.cjc_world.specs.ClassFile.Items.{text_at}
+use Rattle.cjc_world.specs.Bytes.AccessFlags.{has, is_interface}
 use Rattle.cjc_world.proofs.BytesLists.{bytes_true}
-use Rattle.cjc_order.specs.ClassFile.Methods.{is_code, code_name_at, method_content, method_attribute, attribute_count}
-use Rattle.cjc_order.specs.ClassFile.Methods.{needs_code, method_tree}
-use Rattle.cjc_order.specs.ClassFile.ClassFile.{back_part, class_file}
-use Rattle.cjc_order.specs.ExportFile.declared.tree.ExportClass.{ExportClass}
-use Rattle.cjc_order.specs.ExportFile.declared.tree.ExportMethod.{ExportMethod}
-use Rattle.cjc_order.specs.ExportFile.declared.tree.ExportTree.{ExportTree}
-use Rattle.cjc_order.specs.ExportFile.Members.{not_special}
-use Rattle.cjc_order.specs.ExportFile.Writable.{EachAfter, MethodStands, ClassFits, IsWritable}
+use Rattle.cjc_world.specs.ClassFile.Methods.{is_code, code_name_at, method_content, method_attribute, attribute_count}
+use Rattle.cjc_world.specs.ClassFile.Methods.{needs_code, method_tree}
+use Rattle.cjc_world.specs.ClassFile.ClassFile.{back_part, class_file}
+use Rattle.cjc_world.specs.ExportFile.declared.tree.ExportClass.{ExportClass}
+use Rattle.cjc_world.specs.ExportFile.declared.tree.ExportMethod.{ExportMethod}
+use Rattle.cjc_world.specs.ExportFile.declared.tree.ExportTree.{ExportTree}
+use Rattle.cjc_world.specs.ExportFile.Members.{not_special}
+use Rattle.cjc_world.specs.ExportFile.Writable.{EachAfter, MethodStands, ClassFits, IsWritable}
 use Rattle.cjc_tokens.specs.Members.{is_constructor}
 use Rattle.cjc_vtable.proofs.Filed.{Has, at_front, behind}
 

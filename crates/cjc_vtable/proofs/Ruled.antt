@@ -3,16 +3,16 @@ use Rattle.std.proofs.Common.{◌≡◌, ℕ, ◌+◌, refl, sym, ap, ◌∙◌,
 use Rattle.std.specs.Prelude.{map, not, ◌&&◌, ◌||◌, Option, Some, None, slice_get, if◌then◌else◌}
 use Rattle.std.specs.List.{list_any}
 use Rattle.std.specs.Str.{bytes_eq}
-use Rattle.cjc_tokens.specs.Bytes.Breaks.{broken_at, list_spot}
-use Rattle.cjc_tokens.specs.Bytes.declared.order.FileKey.{FileKey}
-use Rattle.cjc_tokens.specs.Bytes.declared.order.FileKey.TheVariants as keys
-use Rattle.cjc_tokens.specs.Bytes.declared.settings.FileLine.{FileLine}
-use Rattle.cjc_order.specs.ClassFile.declared.tree.ClassTree.{ClassTree}
-use Rattle.cjc_order.specs.ExportFile.declared.tree.ExportTree.{ExportTree}
+use Rattle.cjc_world.specs.Bytes.Breaks.{broken_at, list_spot}
+use Rattle.cjc_world.specs.Bytes.declared.order.FileKey.{FileKey}
+use Rattle.cjc_world.specs.Bytes.declared.order.FileKey.TheVariants as keys
+use Rattle.cjc_world.specs.Bytes.declared.settings.FileLine.{FileLine}
+use Rattle.cjc_world.specs.ClassFile.declared.tree.ClassTree.{ClassTree}
+use Rattle.cjc_world.specs.ExportFile.declared.tree.ExportTree.{ExportTree}
 use Rattle.cjc_world.specs.Files.{Files}
 use Rattle.cjc_world.specs.Classes.{Class, declared, numbered, size, of_class_file, of_export_file, classes_from}
 use Rattle.cjc_world.specs.Classes.{all_classes, class_named}
-use Rattle.cjc_tokens.specs.Bytes.AccessFlags.{is_interface}
+use Rattle.cjc_world.specs.Bytes.AccessFlags.{is_interface}
 use Rattle.cjc_world.proofs.BytesLists.{none_left, none_right}
 use Rattle.cjc_world.specs.Supertypes.{Lists, foremost, after}
 use Rattle.cjc_world.specs.Lookup.{object}

@@ -7,7 +7,7 @@ use Rattle.std.proofs.lemmas.Bool.{eqb-true, eqb-false}
 use Rattle.std.proofs.lemmas.Bool.Decides.{nat_tests}
 use Rattle.std.proofs.lemmas.Option.{slice_get-map}
 use Rattle.cjc_world.specs.Classes.{Member, Class}
-use Rattle.cjc_tokens.specs.Bytes.AccessFlags.{is_private, is_static}
+use Rattle.cjc_world.specs.Bytes.AccessFlags.{is_private, is_static}
 use Rattle.cjc_world.proofs.BytesGets.{in_front}
 use Rattle.cjc_world.specs.Lookup.{or_else, first, is_selectable}
 use Rattle.cjc_tokens.specs.Members.{Signature, signature_of, signatures, is_exposed, is_virtual, is_shown, is_hidden}

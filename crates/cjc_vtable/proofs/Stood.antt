@@ -5,7 +5,7 @@ use Rattle.std.specs.Prelude.{◌||◌, ◌⊎◌, Some, if◌then◌else◌}
 use Rattle.std.specs.Str.{bytes_eq}
 use Rattle.std.proofs.lemmas.Bool.{or_left, or_right}
 use Rattle.cjc_world.specs.Classes.{Member, Class, class_named}
-use Rattle.cjc_tokens.specs.Bytes.AccessFlags.{is_interface}
+use Rattle.cjc_world.specs.Bytes.AccessFlags.{is_interface}
 use Rattle.cjc_world.proofs.BytesLists.{name_is}
 use Rattle.cjc_world.proofs.BytesBools.{left4, second4}
 use Rattle.cjc_world.specs.Supertypes.{Supertypes, End, Unknown, Known, AreSupertypes, ends, unknown_here, known_here}

@@ -1,7 +1,7 @@
 -- The tables of one class.
 use Rattle.std.proofs.Common.{◌≡◌, ℕ, ap, ◌∙◌, List}
 use Rattle.std.specs.Prelude.{map, Option}
-use Rattle.cjc_order.specs.ClassFile.declared.tree.ClassTree.{ClassTree}
+use Rattle.cjc_world.specs.ClassFile.declared.tree.ClassTree.{ClassTree}
 use Rattle.cjc_world.specs.declared.found.Found.{Found}
 use Rattle.cjc_world.specs.Classes.{Class, declared}
 use Rattle.cjc_world.specs.Interfaces.{known}

@@ -3,7 +3,7 @@ use Rattle.std.proofs.Common.{◌≡◌, ℕ, refl, sym, ap, subst, ◌∙◌, B
 use Rattle.std.proofs.Common.{⊎_elim}
 use Rattle.std.specs.Prelude.{Option, Some, None, if◌then◌else◌}
 use Rattle.cjc_world.specs.Classes.{Member, Class, class_named}
-use Rattle.cjc_tokens.specs.Bytes.AccessFlags.{is_public, is_interface}
+use Rattle.cjc_world.specs.Bytes.AccessFlags.{is_public, is_interface}
 use Rattle.cjc_world.specs.Interfaces.{where_listed, gathered, known}
 use Rattle.cjc_world.specs.Supertypes.{Supertypes, End, Unknown, Known, supertypes, AreSupertypes, ends, unknown_here}
 use Rattle.cjc_world.specs.Supertypes.{known_here, Lists, foremost, after, upwards, line}

@@ -2,7 +2,7 @@
 use Rattle.std.specs.Prelude.{◌≡◌, ℕ, List, [], ◌++◌, Bool, true, false, not, ◌&&◌, ◌||◌, Option, Some, None, map}
 use Rattle.cjc_world.specs.declared.found.Found.{Found}
 use Rattle.cjc_world.specs.Classes.{Member, Class}
-use Rattle.cjc_tokens.specs.Bytes.AccessFlags.{is_private}
+use Rattle.cjc_world.specs.Bytes.AccessFlags.{is_private}
 use Rattle.cjc_world.specs.Lookup.{or_else, first, is_selectable}
 use Rattle.cjc_tokens.specs.Members.{Signature, signature_of, has, signatures, is_exposed, is_constructor}
 use Rattle.cjc_tokens.specs.Members.{is_initialiser, is_virtual, is_shown, is_hidden, all_methods, In, chosen}

@@ -1,18 +1,18 @@
 -- What a package keeps that dispatch by class tables rests on, said by the rules that it does not break.
 use Rattle.std.specs.Prelude.{◌≡◌, ℕ, List, [], ◌++◌, true, false, slice_get, Some}
-use Rattle.cjc_tokens.specs.Bytes.declared.settings.Settings.{Settings}
-use Rattle.cjc_tokens.specs.Bytes.AccessFlags.{is_interface}
-use Rattle.cjc_tokens.specs.Bytes.Format.{FileSpells}
-use Rattle.cjc_order.specs.ClassFile.declared.tree.ClassTree.{ClassTree}
-use Rattle.cjc_order.specs.ClassFile.ClassFile.{class_file}
-use Rattle.cjc_subset.specs.Bytecode.declared.method_code.MethodCode.{MethodCode}
-use Rattle.cjc_order.specs.ExportFile.declared.tree.ExportTree.{ExportTree}
-use Rattle.cjc_order.specs.ExportFile.Writable.{IsWritable}
+use Rattle.cjc_world.specs.Bytes.declared.settings.Settings.{Settings}
+use Rattle.cjc_world.specs.Bytes.AccessFlags.{is_interface}
+use Rattle.cjc_world.specs.Bytes.Format.{FileSpells}
+use Rattle.cjc_world.specs.ClassFile.declared.tree.ClassTree.{ClassTree}
+use Rattle.cjc_world.specs.ClassFile.ClassFile.{class_file}
+use Rattle.cjc_subset.specs.LowerBytecode.declared.method_code.MethodCode.{MethodCode}
+use Rattle.cjc_world.specs.ExportFile.declared.tree.ExportTree.{ExportTree}
+use Rattle.cjc_world.specs.ExportFile.Writable.{IsWritable}
 use Rattle.cjc_world.specs.Classes.{Class, all_classes, class_named}
 use Rattle.cjc_world.specs.Files.{Files}
 use Rattle.cjc_world.specs.Supertypes.{supertypes, upwards}
 use Rattle.cjc_world.specs.Rules.{breaks}
-use Rattle.cjc_tokens.specs.Bytes.Breaks.{Break, Among}
+use Rattle.cjc_world.specs.Bytes.Breaks.{Break, Among}
 use Rattle.cjc_world.specs.Subtype.{starts}
 use Rattle.cjc_subset.specs.Checks.{check_breaks}
 use Rattle.cjc_tokens.specs.Members.{all_methods}

@@ -4,7 +4,7 @@ use Rattle.std.specs.Prelude.{if◌then◌else◌}
 use Rattle.std.specs.Str.{bytes_eq}
 use Rattle.cjc_world.specs.declared.found.Found.{Found}
 use Rattle.cjc_world.specs.Classes.{Member, Class, class_named}
-use Rattle.cjc_tokens.specs.Bytes.AccessFlags.{is_abstract, is_public, is_interface}
+use Rattle.cjc_world.specs.Bytes.AccessFlags.{is_abstract, is_public, is_interface}
 use Rattle.cjc_world.specs.Supertypes.{Lists, IsAcyclic, supertypes, upwards, line}
 use Rattle.cjc_world.specs.Interfaces.{known}
 use Rattle.cjc_world.specs.Added.{asked_by, own_methods}

@@ -7,11 +7,6 @@ pub mod Naming
 pub mod Working
 pub mod Meant
 -- Definitions of lower crates, for those above.
-pub mod Range
-pub mod ClassFile
-pub mod Bytecode
-pub mod ExportFile
-pub mod World
-pub mod ClassOrder
-pub mod Subset
-pub mod Tokens
+pub mod Fixpoint
+pub mod LowerClassOrder
+pub mod LowerTokens

@@ -1,7 +1,7 @@
 -- What the tokens of virtual methods mean on the objects of a class (Java Card Virtual Machine Specification 2.2.2,
 -- sections 4.3.7.6 and 7.5).
 use Rattle.std.specs.Prelude.{◌≡◌, ℕ, List, Some, slice_get, true, false}
-use Rattle.cjc_tokens.specs.Bytes.AccessFlags.{is_interface, is_private}
+use Rattle.cjc_world.specs.Bytes.AccessFlags.{is_interface, is_private}
 use Rattle.cjc_world.specs.declared.found.Found.{Found}
 use Rattle.cjc_world.specs.Classes.{Class, Member, class_at, class_named}
 use Rattle.cjc_world.specs.Interfaces.{known}

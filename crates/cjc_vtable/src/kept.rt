@@ -1,8 +1,8 @@
 //! What a package that breaks no rule keeps, and that calls of it by token are selection by name. Nothing here runs.
 
 ghost use Rattle.std.specs.Prelude.{◌≡◌, ℕ, List, []};
-ghost use Rattle.cjc_tokens.specs.Bytes.declared.settings.Settings.{Settings as Given};
-ghost use Rattle.cjc_subset.specs.Bytecode.declared.method_code.MethodCode.{MethodCode};
+ghost use Rattle.cjc_world.specs.Bytes.declared.settings.Settings.{Settings as Given};
+ghost use Rattle.cjc_subset.specs.LowerBytecode.declared.method_code.MethodCode.{MethodCode};
 ghost use Rattle.cjc_world.specs.Classes.{all_classes};
 ghost use Rattle.cjc_world.specs.Files.{Files};
 ghost use Rattle.cjc_world.specs.Rules.{breaks};

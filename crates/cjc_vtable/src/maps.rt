@@ -4,7 +4,7 @@
 ghost use Rattle.std.specs.Prelude.{◌≡◌, ◌++◌, Bool, false, map, option_map, option_to_list, slice_get, IfOk, OnOk};
 ghost use Rattle.std.specs.Prelude.{Some};
 ghost use Rattle.cjc_world.specs.Classes.{all_classes};
-ghost use Rattle.cjc_tokens.specs.Bytes.AccessFlags.{is_interface};
+ghost use Rattle.cjc_world.specs.Bytes.AccessFlags.{is_interface};
 ghost use Rattle.cjc_world.specs.Interfaces.{known};
 ghost use Rattle.cjc_world.specs.Working.Known.{class_of};
 ghost use Rattle.cjc_world.specs.Working.Places.{at_places};

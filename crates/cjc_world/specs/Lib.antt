@@ -13,6 +13,6 @@ pub mod Laws
 pub mod Order
 pub mod Upwards
 -- Definitions of lower crates, for those above.
-pub mod LowerBytes
-pub mod LowerClassFile
-pub mod LowerExportFile
+pub mod Bytes
+pub mod ClassFile
+pub mod ExportFile

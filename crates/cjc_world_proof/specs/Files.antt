@@ -8,14 +8,14 @@ use Rattle.cjc_bytes.specs.Descriptor.{IsClassName}
 use Rattle.cjc_bytes.specs.Format.{FileSpells}
 use Rattle.cjc_bytes.specs.declared.settings.Settings.{Settings}
 use Rattle.cjc_jvm_semantics.specs.Effects.{Fault, exception_class}
-use Rattle.cjc_vtable.specs.ClassFile.ClassFile.{class_file}
-use Rattle.cjc_vtable.specs.ClassFile.declared.tree.ClassTree.{ClassTree}
-use Rattle.cjc_jvm_semantics.specs.Bytecode.declared.method_code.MethodCode.{MethodCode}
-use Rattle.cjc_vtable.specs.ExportFile.Writable.{IsWritable}
-use Rattle.cjc_vtable.specs.ExportFile.declared.tree.ExportClass.{ExportClass}
-use Rattle.cjc_vtable.specs.ExportFile.declared.tree.ExportTree.{ExportTree}
-use Rattle.cjc_vtable.specs.Subset.Checks.{check_breaks}
-use Rattle.cjc_vtable.specs.Subset.Members.{imports}
+use Rattle.cjc_world.specs.ClassFile.ClassFile.{class_file}
+use Rattle.cjc_world.specs.ClassFile.declared.tree.ClassTree.{ClassTree}
+use Rattle.cjc_clinit.specs.Bytecode.declared.method_code.MethodCode.{MethodCode}
+use Rattle.cjc_world.specs.ExportFile.Writable.{IsWritable}
+use Rattle.cjc_world.specs.ExportFile.declared.tree.ExportClass.{ExportClass}
+use Rattle.cjc_world.specs.ExportFile.declared.tree.ExportTree.{ExportTree}
+use Rattle.cjc_clinit.specs.Subset.Checks.{check_breaks}
+use Rattle.cjc_clinit.specs.Subset.Members.{imports}
 use Rattle.cjc_world.specs.Classes.{all_classes, class_named, imported}
 use Rattle.cjc_world.specs.Files.{Files}
 use Rattle.cjc_world.specs.Supertypes.{is_below}

@@ -2,10 +2,10 @@
 //! Definitions and laws alone: nothing here runs.
 ghost use Rattle.std.specs.Prelude.{◌≡◌, ℕ, List, [], ◌∷◌, ◌++◌, length, map, slice_get, true, Option, Some};
 ghost use Rattle.cjc_bytes.specs.declared.fault.MemberId.{MemberId};
-ghost use Rattle.cjc_vtable.specs.ClassFile.declared.tree.ClassTree.{ClassTree};
-ghost use Rattle.cjc_jvm_semantics.specs.Bytecode.declared.insn.JOp.{JOp};
-ghost use Rattle.cjc_jvm_semantics.specs.Bytecode.declared.insn.JOp.TheVariants as jop;
-ghost use Rattle.cjc_jvm_semantics.specs.Script.declared.value.Value.{Value};
+ghost use Rattle.cjc_world.specs.ClassFile.declared.tree.ClassTree.{ClassTree};
+ghost use Rattle.cjc_clinit.specs.Bytecode.declared.insn.JOp.{JOp};
+ghost use Rattle.cjc_clinit.specs.Bytecode.declared.insn.JOp.TheVariants as jop;
+ghost use Rattle.cjc_jvm_semantics.specs.LowerScript.declared.value.Value.{Value};
 ghost use Rattle.cjc_world.specs.declared.image.StaticImage.{StaticImage};
 ghost use Rattle.cjc_world.specs.Files.{Files};
 ghost use Rattle.cjc_jvm_semantics.specs.ByName.{linked};
@@ -14,7 +14,7 @@ ghost use Rattle.cjc_jvm_semantics.specs.Linked.{Linked, Method, Static};
 ghost use Rattle.cjc_clinit.specs.declared.stage.Held.{Held as Content};
 ghost use Rattle.cjc_clinit.specs.Fields.{Contents};
 ghost use Rattle.cjc_clinit.specs.Initialiser.{Initialises, Makes, Put, nothing_in, ops_of};
-ghost use Rattle.cjc_jvm_semantics.specs.Bytecode.declared.method_code.MethodCode.{MethodCode};
+ghost use Rattle.cjc_clinit.specs.Bytecode.declared.method_code.MethodCode.{MethodCode};
 ghost use Rattle.cjc_jvm_semantics.specs.OnePackage.{cells, static_array};
 ghost use Rattle.cjc_world.specs.declared.image.ArrayCell.{ArrayCell};
 ghost use Rattle.cjc_clinit.specs.Image.{AreInitialised, IsImage};

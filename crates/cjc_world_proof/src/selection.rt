@@ -5,7 +5,7 @@ ghost use Rattle.cjc_bytes.specs.declared.settings.Settings.{Settings};
 ghost use Rattle.cjc_jvm_semantics.specs.Effects.{Fault, exception_class};
 ghost use Rattle.cjc_jvm_semantics.specs.OnePackage.{is_plain_import};
 ghost use Rattle.cjc_world_proof.specs.Calls.Solid.{IsSolid};
-ghost use Rattle.cjc_jvm_semantics.specs.Bytecode.declared.method_code.MethodCode.{MethodCode};
+ghost use Rattle.cjc_clinit.specs.Bytecode.declared.method_code.MethodCode.{MethodCode};
 ghost use Rattle.cjc_world_proof.specs.Files.{ExportsAreSound, IsClean};
 ghost use Rattle.cjc_world.specs.Classes.{Class, all_classes, class_named};
 ghost use Rattle.cjc_world.specs.Files.{Files};

@@ -3,18 +3,18 @@ use Rattle.std.proofs.Common.{◌≡◌, ℕ, zero, suc, ◌+◌, refl, subst, �
 use Rattle.std.proofs.Common.{◌∷◌, map}
 use Rattle.std.specs.Prelude.{◌==◌, nat_le, if◌then◌else◌, ℤ, pos, negsuc}
 use Rattle.std.proofs.lemmas.Bool.Decides.{nat_tests}
-use Rattle.cjc_frames.specs.Bytecode.Jvm as jvm
-use Rattle.cjc_verify.specs.NCode.Lowering.Naming.{Naming}
-use Rattle.cjc_frames.specs.Bytecode.declared.insn.JOp.TheVariants as jop
-use Rattle.cjc_frames.specs.Range.Words.{low_word}
+use Rattle.cjc_types.specs.Bytecode.Jvm as jvm
+use Rattle.cjc_check_proof.specs.NCode.Lowering.Naming.{Naming}
+use Rattle.cjc_types.specs.Bytecode.declared.insn.JOp.TheVariants as jop
+use Rattle.cjc_types.specs.Range.Words.{low_word}
 use Rattle.cjc_types.specs.Steps.{shuffled, stack_takes}
-use Rattle.cjc_verify.specs.NCode.Written.{Resolution, arithmetic, is_byte, on_stack, pushed_word, written}
-use Rattle.cjc_verify.specs.NCode.declared.narrow.NInsn.{NInsn}
-use Rattle.cjc_verify.specs.NCode.declared.narrow.NInsn.TheVariants.{Inc, Local, Op, Push}
-use Rattle.cjc_card_acts.specs.CardTypes.{ValueType}
-use Rattle.cjc_card_acts.specs.Rows.{any_words, calculating}
-use Rattle.cjc_card_acts.specs.Rows.{idle, increasing, loading, pushing, row, storing}
-use Rattle.cjc_check_proof.specs.CardSemantics.Bytecode.Effects as letters
+use Rattle.cjc_check_proof.specs.NCode.Written.{Resolution, arithmetic, is_byte, on_stack, pushed_word, written}
+use Rattle.cjc_check_proof.specs.NCode.declared.narrow.NInsn.{NInsn}
+use Rattle.cjc_check_proof.specs.NCode.declared.narrow.NInsn.TheVariants.{Inc, Local, Op, Push}
+use Rattle.cjc_verify.specs.CardActs.CardTypes.{ValueType}
+use Rattle.cjc_verify.specs.CardActs.Rows.{any_words, calculating}
+use Rattle.cjc_verify.specs.CardActs.Rows.{idle, increasing, loading, pushing, row, storing}
+use Rattle.cjc_verify.specs.CardSemantics.Bytecode.Effects as letters
 use Rattle.cjc_frames.specs.declared.acts.Act.{Act}
 use Rattle.cjc_frames.specs.declared.acts.Given.TheVariants.{ANull, ANumber, Operand}
 use Rattle.cjc_verify.specs.Pairs.{Pair}

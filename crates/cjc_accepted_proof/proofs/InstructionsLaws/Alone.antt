@@ -5,17 +5,17 @@ use Rattle.cjc_types.specs.Rules.{is_off as is_off_by_name}
 use Rattle.std.proofs.Common.{◌≡◌, ℕ, suc, sym, subst, ◌∙◌, true, false, List, [], ◌∷◌, Contains, inl}
 use Rattle.std.proofs.Common.{inr}
 use Rattle.std.proofs.Common.{Option, arith, ◌<◌}
-use Rattle.cjc_frames.specs.Bytecode.declared.insn.JInsn.{JInsn}
-use Rattle.cjc_frames.specs.Fixpoint.Working.Edges.{contains_cons}
+use Rattle.cjc_types.specs.Bytecode.declared.insn.JInsn.{JInsn}
+use Rattle.cjc_types.specs.Fixpoint.Working.Edges.{contains_cons}
 use Rattle.cjc_types.specs.States.{states}
 use Rattle.cjc_types.specs.Steps.{after as after_by_name, goes_on as goes_on_by_name, targets}
-use Rattle.cjc_verify.specs.World.Classes.{Class}
+use Rattle.cjc_types.specs.World.Classes.{Class}
 use Rattle.cjc_types.specs.declared.cell.Cell.{Cell}
 use Rattle.cjc_types.specs.declared.state.Stack.TheVariants.{Cells}
 use Rattle.cjc_types.specs.declared.state.State.{State}
-use Rattle.cjc_verify.specs.NCode.Written.{Resolution, place_in, reached, written_for}
-use Rattle.cjc_verify.specs.NCode.declared.narrow.NInsn.{NInsn}
-use Rattle.cjc_check_proof.specs.Narrow.Pairs.Open.{Open, closed}
+use Rattle.cjc_check_proof.specs.NCode.Written.{Resolution, place_in, reached, written_for}
+use Rattle.cjc_check_proof.specs.NCode.declared.narrow.NInsn.{NInsn}
+use Rattle.cjc_verify.specs.Narrow.Pairs.Open.{Open, closed}
 use Rattle.cjc_frames.specs.Acts.{Subtype}
 use Rattle.cjc_frames.specs.declared.acts.Step.{Step}
 use Rattle.cjc_accepted_proof.specs.Blocks.{AllStand, goes_on, nothing, one}

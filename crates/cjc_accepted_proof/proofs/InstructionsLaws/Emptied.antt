@@ -3,17 +3,17 @@ use Rattle.std.proofs.Common.{◌≡◌, ℕ, ◌≤◌, refl, sym, ap, subst, �
 use Rattle.std.proofs.Common.{◌∷◌, length, Option}
 use Rattle.std.specs.Prelude.{◌||◌, nat_le, nat_lt, if◌then◌else◌}
 use Rattle.std.proofs.lemmas.Bool.Decides.{nat_tests}
-use Rattle.cjc_frames.specs.Bytecode.Jvm as jvm
-use Rattle.cjc_frames.specs.Bytecode.declared.insn.JOp.TheVariants as jop
+use Rattle.cjc_types.specs.Bytecode.Jvm as jvm
+use Rattle.cjc_types.specs.Bytecode.declared.insn.JOp.TheVariants as jop
 use Rattle.cjc_types.specs.Flow.{Body}
 use Rattle.cjc_types.specs.Rules.{is_off}
 use Rattle.cjc_types.specs.States.{most_cells, stack_of}
-use Rattle.cjc_verify.specs.World.Classes.{Class}
+use Rattle.cjc_types.specs.World.Classes.{Class}
 use Rattle.cjc_types.specs.declared.cell.Cell.{Cell}
 use Rattle.cjc_types.specs.declared.state.Stack.{Stack}
 use Rattle.cjc_types.specs.declared.state.Stack.TheVariants.{Cells, Clash}
-use Rattle.cjc_check_proof.specs.Narrow.Pairs.Open.{closed}
-use Rattle.cjc_card_acts.specs.Rows.{any_words, idle}
+use Rattle.cjc_verify.specs.Narrow.Pairs.Open.{closed}
+use Rattle.cjc_verify.specs.CardActs.Rows.{any_words, idle}
 use Rattle.cjc_frames.specs.Acts.{Subtype}
 use Rattle.cjc_frames.specs.declared.acts.Act.{Act}
 use Rattle.cjc_frames.specs.declared.acts.Step.{Step}

@@ -6,25 +6,25 @@ use Rattle.std.specs.Prelude.{◌||◌, ◌&&◌, ◌==◌, not, nat_le, if◌th
 use Rattle.std.specs.List.{AllZip}
 use Rattle.std.proofs.lemmas.Bool.Decides.{nat_tests}
 use Rattle.cjc_types.proofs.BytesGets.{get_below, get_mapped}
-use Rattle.cjc_verify.specs.Bytes.declared.fault.MemberId.{MemberId}
-use Rattle.cjc_frames.specs.Bytecode.declared.insn.JOp.{JOp}
-use Rattle.cjc_frames.specs.Bytecode.declared.insn.JOp.TheVariants as jop
+use Rattle.cjc_types.specs.Bytes.declared.fault.MemberId.{MemberId}
+use Rattle.cjc_types.specs.Bytecode.declared.insn.JOp.{JOp}
+use Rattle.cjc_types.specs.Bytecode.declared.insn.JOp.TheVariants as jop
 use Rattle.cjc_types.specs.Cells.{IsCellBelow}
 use Rattle.cjc_types.specs.Flow.{Body}
 use Rattle.cjc_types.specs.Rules.{all_types, has_wrong as has_wrong_by_name, is_off}
 use Rattle.cjc_types.specs.States.{IsStackBelow, most_cells, stack_of, states}
 use Rattle.cjc_types.specs.Steps.{after, gives, locals_after, stack_behind as behind_by_name, takes}
 use Rattle.cjc_types.specs.Types.{is_void, parts}
-use Rattle.cjc_verify.specs.World.Classes.{Class}
+use Rattle.cjc_types.specs.World.Classes.{Class}
 use Rattle.cjc_types.specs.declared.cell.Cell.{Cell}
 use Rattle.cjc_types.specs.declared.cell.Cell.TheVariants.{Number, Refs, Unusable}
 use Rattle.cjc_types.specs.declared.state.Stack.TheVariants.{Cells, Clash}
 use Rattle.cjc_types.specs.declared.state.State.{State}
-use Rattle.cjc_check_proof.specs.Narrow.Pairs.Open.{Open, begun, closed, pushed}
-use Rattle.cjc_check_proof.specs.LowerNarrowProof.Tables.Pairs.{IsSilent, a_narrow, a_nop}
-use Rattle.cjc_card_acts.specs.CapRead.declared.tree.ClassRef.{ClassRef}
-use Rattle.cjc_card_acts.specs.CardTypes.{ValueType, needs_of}
-use Rattle.cjc_check_proof.specs.CardSemantics.Bytecode.Effects.{Letter}
+use Rattle.cjc_verify.specs.Narrow.Pairs.Open.{Open, begun, closed, pushed}
+use Rattle.cjc_check_proof.specs.NarrowProof.Tables.Pairs.{IsSilent, a_narrow, a_nop}
+use Rattle.cjc_verify.specs.CapRead.declared.tree.ClassRef.{ClassRef}
+use Rattle.cjc_verify.specs.CardActs.CardTypes.{ValueType, needs_of}
+use Rattle.cjc_verify.specs.CardSemantics.Bytecode.Effects.{Letter}
 use Rattle.cjc_verify.specs.ClassTypes.{class_type}
 use Rattle.cjc_frames.specs.declared.acts.Act.{Act}
 use Rattle.cjc_frames.specs.declared.acts.Given.{Given}

@@ -4,26 +4,26 @@ use Rattle.std.proofs.Common.{List, [], ◌∷◌, ◌++◌, length, length-appe
 use Rattle.std.proofs.Common.{append-nil}
 use Rattle.std.specs.Prelude.{◌||◌, ◌==◌, ◌&&◌, not, if◌then◌else◌}
 use Rattle.std.proofs.lemmas.Bool.{eqb-true}
-use Rattle.cjc_verify.specs.Bytes.declared.descriptor.Kind.{Kind}
-use Rattle.cjc_verify.specs.Bytes.declared.descriptor.Kind.TheVariants as kinds
-use Rattle.cjc_verify.specs.Bytes.declared.fault.MemberId.{MemberId}
-use Rattle.cjc_frames.specs.Bytecode.Jvm as jvm
-use Rattle.cjc_frames.specs.Bytecode.declared.insn.JOp.TheVariants as jop
+use Rattle.cjc_types.specs.Bytes.declared.descriptor.Kind.{Kind}
+use Rattle.cjc_types.specs.Bytes.declared.descriptor.Kind.TheVariants as kinds
+use Rattle.cjc_types.specs.Bytes.declared.fault.MemberId.{MemberId}
+use Rattle.cjc_types.specs.Bytecode.Jvm as jvm
+use Rattle.cjc_types.specs.Bytecode.declared.insn.JOp.TheVariants as jop
 use Rattle.cjc_types.specs.Flow.{Body}
 use Rattle.cjc_types.specs.Rules.{has_wrong as has_wrong_by_name, is_value, is_wrong_return}
 use Rattle.cjc_types.specs.Rules.{is_of as is_of_class, receiver_class, returns}
 use Rattle.cjc_types.specs.Steps.{gives, takes}
 use Rattle.cjc_types.specs.Types.{is_void, parts, result_of}
-use Rattle.cjc_verify.specs.World.Classes.{Class}
+use Rattle.cjc_types.specs.World.Classes.{Class}
 use Rattle.cjc_types.specs.declared.cell.Cell.{Cell}
 use Rattle.cjc_types.specs.declared.cell.Cell.TheVariants.{Number}
-use Rattle.cjc_card_acts.specs.CapRead.declared.tree.ClassRef.{ClassRef}
-use Rattle.cjc_card_acts.specs.CapRead.declared.tree.StaticRef.{StaticRef}
-use Rattle.cjc_card_acts.specs.CardTypes.{Boolean, Byte, MemberType, Reference, Short, ValueType, Void}
-use Rattle.cjc_card_acts.specs.CardTypes.{is_returned_by, needs_of, words}
-use Rattle.cjc_card_acts.specs.Rows.{pushing}
-use Rattle.cjc_check_proof.specs.CardSemantics.Bytecode.Effects.{Letter}
-use Rattle.cjc_check_proof.specs.CardSemantics.Bytecode.Effects as letters
+use Rattle.cjc_verify.specs.CapRead.declared.tree.ClassRef.{ClassRef}
+use Rattle.cjc_verify.specs.CapRead.declared.tree.StaticRef.{StaticRef}
+use Rattle.cjc_verify.specs.CardActs.CardTypes.{Boolean, Byte, MemberType, Reference, Short, ValueType, Void}
+use Rattle.cjc_verify.specs.CardActs.CardTypes.{is_returned_by, needs_of, words}
+use Rattle.cjc_verify.specs.CardActs.Rows.{pushing}
+use Rattle.cjc_verify.specs.CardSemantics.Bytecode.Effects.{Letter}
+use Rattle.cjc_verify.specs.CardSemantics.Bytecode.Effects as letters
 use Rattle.cjc_verify.specs.ClassTypes.{class_type}
 use Rattle.cjc_frames.specs.declared.acts.Given.TheVariants.{ANumber}
 use Rattle.cjc_frames.specs.declared.acts.Need.{Need}

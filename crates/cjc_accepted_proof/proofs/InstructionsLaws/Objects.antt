@@ -6,8 +6,8 @@ use Rattle.std.proofs.Common.{List, [], ◌∷◌, ◌++◌, length, map, Option
 use Rattle.std.specs.Prelude.{◌||◌, ◌==◌, nat_le, if◌then◌else◌}
 use Rattle.std.specs.List.{AllZip}
 use Rattle.std.proofs.lemmas.Bool.Decides.{nat_tests}
-use Rattle.cjc_frames.specs.Bytecode.Jvm as jvm
-use Rattle.cjc_frames.specs.Bytecode.declared.insn.JOp.TheVariants as jop
+use Rattle.cjc_types.specs.Bytecode.Jvm as jvm
+use Rattle.cjc_types.specs.Bytecode.declared.insn.JOp.TheVariants as jop
 use Rattle.cjc_types.specs.Cells.{IsCellBelow, most_names, refs}
 use Rattle.cjc_types.specs.Flow.{Body}
 use Rattle.cjc_types.specs.Names.{In, IsSet, IsWithin}
@@ -17,14 +17,14 @@ use Rattle.cjc_types.specs.Rules.{is_number, is_reference, throwable}
 use Rattle.cjc_types.specs.Types.{array_of, elements as elements_by_name, element_of as element_by_name}
 use Rattle.cjc_types.specs.Types.{held as held_by_name, letter, with_held as with_held_by_name}
 use Rattle.cjc_types.specs.Steps.{operand}
-use Rattle.cjc_verify.specs.World.Classes.{Class}
-use Rattle.cjc_verify.specs.World.Subtype.{starts}
+use Rattle.cjc_types.specs.World.Classes.{Class}
+use Rattle.cjc_types.specs.World.Subtype.{starts}
 use Rattle.cjc_types.specs.declared.cell.Cell.{Cell}
 use Rattle.cjc_types.specs.declared.cell.Cell.TheVariants.{Number, Refs, Unusable}
-use Rattle.cjc_card_acts.specs.CardTypes.{all_arrays, arrays_of}
-use Rattle.cjc_card_acts.specs.Rows.{idle, loading_item, storing_item, letter_needs, items_of}
-use Rattle.cjc_check_proof.specs.CardSemantics.Bytecode.Effects.{Letter}
-use Rattle.cjc_check_proof.specs.CardSemantics.Bytecode.Effects as letters
+use Rattle.cjc_verify.specs.CardActs.CardTypes.{all_arrays, arrays_of}
+use Rattle.cjc_verify.specs.CardActs.Rows.{idle, loading_item, storing_item, letter_needs, items_of}
+use Rattle.cjc_verify.specs.CardSemantics.Bytecode.Effects.{Letter}
+use Rattle.cjc_verify.specs.CardSemantics.Bytecode.Effects as letters
 use Rattle.cjc_frames.specs.declared.acts.Given.TheVariants.{ANumber, AnObject}
 use Rattle.cjc_frames.specs.declared.acts.Need.{Need}
 use Rattle.cjc_frames.specs.declared.acts.Need.TheVariants.{NumberWord, OfArrays, OfType, ReferenceWord}

@@ -16,7 +16,7 @@ use Rattle.cjc_frames.specs.declared.acts.Given.TheVariants.{Operand}
 use Rattle.cjc_frames.specs.declared.acts.Need.{Need}
 use Rattle.cjc_frames.specs.declared.acts.Need.TheVariants.{NumberWord, ReferenceWord}
 use Rattle.cjc_frames.specs.Acts.{Subtype, given, has_wrong, meets}
-use Rattle.cjc_card_acts.specs.Rows.{any_words}
+use Rattle.cjc_verify.specs.CardActs.Rows.{any_words}
 use Rattle.cjc_accepted_proof.specs.Frames.{card_cell, card_cells}
 use Rattle.cjc_accepted_proof.proofs.RowsLaws.{zip_itself}
 

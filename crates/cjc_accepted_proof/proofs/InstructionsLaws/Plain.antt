@@ -5,10 +5,10 @@ use Rattle.std.specs.Prelude.{◌||◌, ◌&&◌, ◌==◌, not, if◌then◌els
 use Rattle.std.specs.List.{AllZip}
 use Rattle.std.proofs.lemmas.List.{length-replicate}
 use Rattle.cjc_types.proofs.BytesGets.{map_set}
-use Rattle.cjc_frames.specs.Bytecode.Jvm as jvm
-use Rattle.cjc_frames.specs.Bytecode.declared.insn.JCase.{JCase}
-use Rattle.cjc_frames.specs.Bytecode.declared.insn.JOp.{JOp}
-use Rattle.cjc_frames.specs.Bytecode.declared.insn.JOp.TheVariants as jop
+use Rattle.cjc_types.specs.Bytecode.Jvm as jvm
+use Rattle.cjc_types.specs.Bytecode.declared.insn.JCase.{JCase}
+use Rattle.cjc_types.specs.Bytecode.declared.insn.JOp.{JOp}
+use Rattle.cjc_types.specs.Bytecode.declared.insn.JOp.TheVariants as jop
 use Rattle.cjc_types.specs.Cells.{IsCellBelow}
 use Rattle.cjc_types.specs.Flow.{Body}
 use Rattle.cjc_types.specs.Rules.{accepts, has_wrong as has_wrong_by_name, has_wrong_local as has_wrong_local_by_name}
@@ -18,16 +18,16 @@ use Rattle.cjc_types.specs.Types.{as_reference}
 use Rattle.cjc_types.specs.declared.cell.Cell.{Cell}
 use Rattle.cjc_types.specs.declared.cell.Cell.TheVariants.{Number, Unusable}
 use Rattle.cjc_types.specs.declared.state.Stack.TheVariants.{Cells}
-use Rattle.cjc_verify.specs.World.Classes.{Class}
-use Rattle.cjc_check_proof.specs.CardSemantics.Bytecode.Effects as letters
+use Rattle.cjc_types.specs.World.Classes.{Class}
+use Rattle.cjc_verify.specs.CardSemantics.Bytecode.Effects as letters
 use Rattle.cjc_frames.specs.declared.acts.Given.{Given}
 use Rattle.cjc_frames.specs.declared.acts.Given.TheVariants.{ANumber, ANull}
 use Rattle.cjc_frames.specs.declared.acts.Given.TheVariants as given_words
 use Rattle.cjc_frames.specs.declared.acts.Need.{Need}
 use Rattle.cjc_frames.specs.declared.acts.Need.TheVariants.{AnyWord, NumberWord, ReferenceWord}
 use Rattle.cjc_frames.specs.Acts.{Subtype, given, has_wrong, is_wrong_local, meets}
-use Rattle.cjc_card_acts.specs.Rows.{any_words, calculating, idle, increasing, loading, number_words}
-use Rattle.cjc_card_acts.specs.Rows.{pushing, storing}
+use Rattle.cjc_verify.specs.CardActs.Rows.{any_words, calculating, idle, increasing, loading, number_words}
+use Rattle.cjc_verify.specs.CardActs.Rows.{pushing, storing}
 use Rattle.cjc_accepted_proof.specs.Frames.{Mirrors, card_cell, card_cells}
 use Rattle.cjc_accepted_proof.specs.Plain.{letter_moving, tested, tested_words}
 use Rattle.cjc_accepted_proof.proofs.KindsLaws.{first_operand}

@@ -5,10 +5,10 @@ use Rattle.std.specs.Prelude.{map, slice_get, Some}
 use Rattle.std.specs.List.{range_with_len}
 use Rattle.std.proofs.lemmas.List.{length-map}
 use Rattle.std.proofs.lemmas.Option.{slice_get_cases}
-use Rattle.cjc_methods.specs.ClassFile.declared.tree.ClassTree.{ClassTree}
-use Rattle.cjc_classes.specs.World.Added.{added_at}
-use Rattle.cjc_classes.specs.World.Classes.{Class, all_classes, declared, field_of_class, method_of_class}
-use Rattle.cjc_classes.specs.World.Files.{Files}
+use Rattle.cjc_classes.specs.ClassFile.declared.tree.ClassTree.{ClassTree}
+use Rattle.cjc_exported.specs.World.Added.{added_at}
+use Rattle.cjc_exported.specs.World.Classes.{Class, all_classes, declared, field_of_class, method_of_class}
+use Rattle.cjc_exported.specs.World.Files.{Files}
 use Rattle.cjc_classes.specs.Descriptor.Made.{member_count, numbered}
 use Rattle.cjc_classes.specs.declared.descriptor.parts.Extent.{Extent}
 use Rattle.cjc_captree.specs.Working.Tables.{nowhere, row_of}

@@ -3,16 +3,16 @@ use Rattle.std.proofs.Common.{◌≡◌, ℕ, suc, ◌+◌, ◌≤◌, ◌<◌, 
 use Rattle.std.proofs.Common.{◌∷◌, ◌++◌, length, get_or, drop, append_assoc, append-nil}
 use Rattle.std.specs.Prelude.{map, slice_get, slice_set, Some, if◌then◌else◌}
 use Rattle.std.proofs.lemmas.List.{drop_all}
-use Rattle.cjc_methods.specs.NCode.declared.narrow.NMethod.{NMethod}
-use Rattle.cjc_classes.specs.Components.Methods.{bytecode_count, extent_at, extent_from, handler_count, is_member}
-use Rattle.cjc_classes.specs.Components.Methods.{method_size}
-use Rattle.cjc_classes.specs.Components.Methods.{placed_from}
-use Rattle.cjc_exported.specs.Layout.Layouts.{IsLayout}
-use Rattle.cjc_classes.specs.Components.Package.{LaidMethod}
+use Rattle.cjc_classes.specs.NCode.declared.narrow.NMethod.{NMethod}
+use Rattle.cjc_exported.specs.Components.Methods.{bytecode_count, extent_at, extent_from, handler_count, is_member}
+use Rattle.cjc_exported.specs.Components.Methods.{method_size}
+use Rattle.cjc_exported.specs.Components.Methods.{placed_from}
+use Rattle.cjc_classes.specs.Layout.Layouts.{IsLayout}
+use Rattle.cjc_exported.specs.Components.Package.{LaidMethod}
 use Rattle.cjc_classes.specs.Descriptor.Made.{extent_by}
 use Rattle.cjc_classes.specs.declared.descriptor.parts.Extent.{Extent}
-use Rattle.cjc_classes.specs.World.declared.found.Found.{Found}
-use Rattle.cjc_classes.specs.World.Files.{Files}
+use Rattle.cjc_exported.specs.World.declared.found.Found.{Found}
+use Rattle.cjc_exported.specs.World.Files.{Files}
 use Rattle.cjc_methods.specs.declared.layouts.laid.Laid.{Laid}
 use Rattle.cjc_methods.specs.Layouts.Laid.{laid_method, with_layouts}
 use Rattle.cjc_methods.specs.Layouts.Working.Offsets as kept

@@ -5,16 +5,17 @@ use Rattle.std.specs.Prelude.{map, All, slice_get, if◌then◌else◌, codes, S
 use Rattle.std.specs.Str.{bytes_eq}
 use Rattle.std.proofs.lemmas.Bool.{eqb-true}
 use Rattle.std.proofs.lemmas.List.Elements.{All-append, All-cons, All-head, All-nil, All-tail}
-use Rattle.cjc_methods.specs.ClassFile.declared.tree.ClassTree.{ClassTree}
-use Rattle.cjc_classes.specs.World.declared.found.Found.{Found}
-use Rattle.cjc_classes.specs.World.Added.{added}
-use Rattle.cjc_classes.specs.World.Classes.{Class, Member, all_classes, class_at, declared}
-use Rattle.cjc_classes.specs.World.Files.{Files}
-use Rattle.cjc_classes.specs.World.Lookup.{member_at}
-use Rattle.cjc_classes.specs.World.Order.{in_order, method_order, methods_in_turn, methods_of_class, places, written}
+use Rattle.cjc_classes.specs.ClassFile.declared.tree.ClassTree.{ClassTree}
+use Rattle.cjc_exported.specs.World.declared.found.Found.{Found}
+use Rattle.cjc_exported.specs.World.Added.{added}
+use Rattle.cjc_exported.specs.World.Classes.{Class, Member, all_classes, class_at, declared}
+use Rattle.cjc_exported.specs.World.Files.{Files}
+use Rattle.cjc_exported.specs.World.Lookup.{member_at}
+use Rattle.cjc_exported.specs.World.Order.{in_order, method_order, methods_in_turn, methods_of_class, places, written}
 use Rattle.cjc_classes.proofs.VTableNumbers.{at-tree}
-use Rattle.cjc_classes.specs.Components.Methods.{extent_at, extent_from, handler_count, is_member, method_size, nowhere}
-use Rattle.cjc_classes.specs.Components.Package.{LaidMethod}
+use Rattle.cjc_exported.specs.Components.Methods.{extent_at, extent_from, handler_count, is_member, method_size}
+use Rattle.cjc_exported.specs.Components.Methods.{nowhere}
+use Rattle.cjc_exported.specs.Components.Package.{LaidMethod}
 use Rattle.cjc_methods.specs.Ready.{AreOrdered}
 use Rattle.cjc_classes.specs.Descriptor.Made.{member_count}
 use Rattle.cjc_classes.proofs.BytesBools.{not_true}

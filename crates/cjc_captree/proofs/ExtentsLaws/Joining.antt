@@ -1,11 +1,11 @@
 -- The table of what is found among the methods is the package's.
 use Rattle.std.proofs.Common.{◌≡◌, ℕ, sym, ap, ◌∙◌, List}
 use Rattle.std.specs.Prelude.{map}
-use Rattle.cjc_classes.specs.Components.Methods.{extent_from, first_method, placed_from, placed_methods}
-use Rattle.cjc_classes.specs.Components.Package.{LaidMethod, Package}
+use Rattle.cjc_exported.specs.Components.Methods.{extent_from, first_method, placed_from, placed_methods}
+use Rattle.cjc_exported.specs.Components.Package.{LaidMethod, Package}
 use Rattle.cjc_classes.specs.Descriptor.Made.{extent_by, extents_of}
 use Rattle.cjc_classes.specs.declared.descriptor.parts.Extent.{Extent}
-use Rattle.cjc_classes.specs.World.declared.found.Found.{Found}
+use Rattle.cjc_exported.specs.World.declared.found.Found.{Found}
 use Rattle.cjc_methods.specs.declared.layouts.laid.Methods.{Methods}
 use Rattle.cjc_methods.specs.Layouts.Laid.{AreLaid, laid_methods}
 use Rattle.cjc_captree.specs.Working.Tables.{extents_by, found_in, table_of}

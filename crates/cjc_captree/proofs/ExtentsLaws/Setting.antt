@@ -3,11 +3,11 @@ use Rattle.std.proofs.Common.{◌≡◌, ℕ, zero, suc, ◌+◌, ◌<◌, ◌==
 use Rattle.std.proofs.Common.{false, List, [], ◌∷◌, get_or}
 use Rattle.std.specs.Prelude.{map, slice_set, if◌then◌else◌}
 use Rattle.std.specs.List.{range_with_len}
-use Rattle.cjc_methods.specs.ClassFile.declared.tree.ClassTree.{ClassTree}
-use Rattle.cjc_classes.specs.World.declared.found.Found.{Found}
-use Rattle.cjc_classes.specs.World.Classes.{Class, all_classes, declared}
-use Rattle.cjc_classes.specs.World.Files.{Files}
-use Rattle.cjc_classes.specs.World.Lookup.{member_at}
+use Rattle.cjc_classes.specs.ClassFile.declared.tree.ClassTree.{ClassTree}
+use Rattle.cjc_exported.specs.World.declared.found.Found.{Found}
+use Rattle.cjc_exported.specs.World.Classes.{Class, all_classes, declared}
+use Rattle.cjc_exported.specs.World.Files.{Files}
+use Rattle.cjc_exported.specs.World.Lookup.{member_at}
 use Rattle.cjc_classes.specs.Descriptor.Made.{member_count, numbered}
 use Rattle.cjc_classes.specs.declared.descriptor.parts.Extent.{Extent}
 use Rattle.cjc_captree.specs.Working.Tables.{is_own, row_of, table_of}

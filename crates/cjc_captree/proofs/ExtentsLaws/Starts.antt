@@ -8,14 +8,14 @@ use Rattle.std.proofs.lemmas.Bool.{cases_lt}
 use Rattle.std.proofs.lemmas.List.{length-map}
 use Rattle.std.proofs.lemmas.List.FromFn.{length-range_with_len}
 use Rattle.std.proofs.lemmas.Option.{slice_get_cases, slice_get_past, slice_get-map, unwrap_or-slice_get}
-use Rattle.cjc_methods.specs.ClassFile.declared.tree.ClassTree.{ClassTree}
-use Rattle.cjc_classes.specs.World.declared.found.Found.{Found}
-use Rattle.cjc_classes.specs.World.Classes.{Class, class_at, declared}
-use Rattle.cjc_classes.specs.World.Lookup.{member_at}
-use Rattle.cjc_classes.specs.World.Order.{method_order}
+use Rattle.cjc_classes.specs.ClassFile.declared.tree.ClassTree.{ClassTree}
+use Rattle.cjc_exported.specs.World.declared.found.Found.{Found}
+use Rattle.cjc_exported.specs.World.Classes.{Class, class_at, declared}
+use Rattle.cjc_exported.specs.World.Lookup.{member_at}
+use Rattle.cjc_exported.specs.World.Order.{method_order}
 use Rattle.cjc_classes.proofs.VTableNumbers.{at-tree}
-use Rattle.cjc_classes.specs.Components.Methods.{first_method, method_offset}
-use Rattle.cjc_classes.specs.Components.Package.{LaidMethod, Package, world}
+use Rattle.cjc_exported.specs.Components.Methods.{first_method, method_offset}
+use Rattle.cjc_exported.specs.Components.Package.{LaidMethod, Package, world}
 use Rattle.cjc_classes.specs.ClassInfo.Entries.{AreOffsets}
 use Rattle.cjc_exported.specs.ExportFile.Offsets.{offset_at}
 use Rattle.cjc_methods.specs.Ready.{AreOrdered}

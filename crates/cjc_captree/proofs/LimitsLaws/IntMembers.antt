@@ -6,20 +6,20 @@ use Rattle.std.specs.List.{list_any}
 use Rattle.std.proofs.lemmas.Option.{slice_get_within}
 use Rattle.std.proofs.lemmas.List.Folds.{list_any-append}
 use Rattle.std.proofs.lemmas.Map.Keys.{any_passes_from_place}
-use Rattle.cjc_classes.specs.Bytes.declared.fault.MemberId.{MemberId}
-use Rattle.cjc_methods.specs.ClassFile.declared.tree.ClassTree.{ClassTree}
-use Rattle.cjc_exported.specs.Subset.Types.{is_int_desc}
-use Rattle.cjc_classes.specs.World.Files.{Files}
-use Rattle.cjc_classes.specs.World.Classes.{Member, Class, declared, field_of_class, method_of_class, all_classes}
-use Rattle.cjc_classes.specs.World.Classes.{class_at}
-use Rattle.cjc_classes.specs.World.declared.class.Known.{Known}
-use Rattle.cjc_classes.specs.World.Working.Known.{class_of}
-use Rattle.cjc_classes.specs.World.Added.{added, added_at, named_by}
+use Rattle.cjc_exported.specs.Bytes.declared.fault.MemberId.{MemberId}
+use Rattle.cjc_classes.specs.ClassFile.declared.tree.ClassTree.{ClassTree}
+use Rattle.cjc_classes.specs.Subset.Types.{is_int_desc}
+use Rattle.cjc_exported.specs.World.Files.{Files}
+use Rattle.cjc_exported.specs.World.Classes.{Member, Class, declared, field_of_class, method_of_class, all_classes}
+use Rattle.cjc_exported.specs.World.Classes.{class_at}
+use Rattle.cjc_exported.specs.World.declared.class.Known.{Known}
+use Rattle.cjc_exported.specs.World.Working.Known.{class_of}
+use Rattle.cjc_exported.specs.World.Added.{added, added_at, named_by}
 use Rattle.cjc_classes.proofs.VTableNumbers.{at-tree}
 use Rattle.cjc_exported.proofs.ExportFile.ByNumber.{of-number}
 use Rattle.cjc_exported.specs.ExportFile.Working.Sources.{is_of_kind}
-use Rattle.cjc_classes.specs.Components.Components.{has_int, uses_int}
-use Rattle.cjc_classes.specs.Components.Descriptor.{as_added}
+use Rattle.cjc_exported.specs.Components.Components.{has_int, uses_int}
+use Rattle.cjc_exported.specs.Components.Descriptor.{as_added}
 use Rattle.cjc_captree.proofs.LimitsLaws.Lists.{none_more, none_passes}
 use Rattle.cjc_classes.proofs.BytesQuantified.{any_of_map}
 use Rattle.cjc_classes.proofs.TypeInfo.Order.{added_is}

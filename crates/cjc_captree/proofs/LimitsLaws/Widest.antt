@@ -4,14 +4,14 @@ use Rattle.std.proofs.Common.{subst, ◌∙◌, arith, inl, inr, Option, Some, N
 use Rattle.std.specs.Prelude.{◌||◌, nat_lt, sum_by, if◌then◌else◌}
 use Rattle.std.proofs.lemmas.List.{length-map}
 use Rattle.std.proofs.lemmas.List.Sums.{sum_by-cons}
-use Rattle.cjc_classes.specs.Bytes.Breaks.{Among, Break, IsFirst, at, broken_at, foremost, after, list_spot}
-use Rattle.cjc_classes.specs.Bytes.Order.{NotAfter}
-use Rattle.cjc_methods.specs.CapWrite.Files.{infos_of, is_too_large, limit_of}
-use Rattle.cjc_methods.specs.NCode.declared.narrow.NMethod.{NMethod}
-use Rattle.cjc_classes.specs.Components.Components.{components_of}
-use Rattle.cjc_classes.specs.Components.Limits.{has_far_types, size_breaks, widest_method}
-use Rattle.cjc_classes.specs.Components.Methods.{handler_count}
-use Rattle.cjc_classes.specs.Components.Package.{LaidMethod, Package, codes}
+use Rattle.cjc_exported.specs.Bytes.Breaks.{Among, Break, IsFirst, at, broken_at, foremost, after, list_spot}
+use Rattle.cjc_exported.specs.Bytes.Order.{NotAfter}
+use Rattle.cjc_classes.specs.CapWrite.Files.{infos_of, is_too_large, limit_of}
+use Rattle.cjc_classes.specs.NCode.declared.narrow.NMethod.{NMethod}
+use Rattle.cjc_exported.specs.Components.Components.{components_of}
+use Rattle.cjc_exported.specs.Components.Limits.{has_far_types, size_breaks, widest_method}
+use Rattle.cjc_exported.specs.Components.Methods.{handler_count}
+use Rattle.cjc_exported.specs.Components.Package.{LaidMethod, Package, codes}
 
 widest_sum : (ms : List LaidMethod) → sum_by (λ (c : NMethod). c.widest) (map (λ m. m.code) ms)
     ≡ sum_by (λ m. let code = m.code in code.widest) ms

@@ -2,13 +2,13 @@
 use Rattle.std.proofs.Common.{◌≡◌, ◌∙◌, ◌+◌, ◌<◌, ◌≤◌, ℕ, map, length, sym, ap, false, Some}
 use Rattle.std.specs.Prelude.{slice_get, option_map}
 use Rattle.std.proofs.lemmas.Option.{slice_get-map}
-use Rattle.cjc_methods.specs.ClassFile.declared.tree.ClassTree.{ClassTree}
-use Rattle.cjc_classes.specs.World.Classes.{Class, class_at}
-use Rattle.cjc_classes.specs.World.Lookup.{member_at}
+use Rattle.cjc_classes.specs.ClassFile.declared.tree.ClassTree.{ClassTree}
+use Rattle.cjc_exported.specs.World.Classes.{Class, class_at}
+use Rattle.cjc_exported.specs.World.Lookup.{member_at}
 use Rattle.cjc_classes.proofs.VTableNumbers.{at-tree}
-use Rattle.cjc_classes.specs.Components.Methods.{method_offset}
-use Rattle.cjc_classes.specs.Components.Names.{class_ref}
-use Rattle.cjc_classes.specs.Components.Package.{Package, world}
+use Rattle.cjc_exported.specs.Components.Methods.{method_offset}
+use Rattle.cjc_exported.specs.Components.Names.{class_ref}
+use Rattle.cjc_exported.specs.Components.Package.{Package, world}
 use Rattle.cjc_classes.specs.Descriptor.Made.{cells_of, extents_of}
 use Rattle.cjc_exported.specs.declared.export_file.component.Offsets.{Offsets}
 use Rattle.cjc_exported.specs.ExportFile.Offsets.{AreOffsets, offset_at}

@@ -2,8 +2,8 @@
 use Rattle.std.proofs.Common.{◌≡◌, ◌∙◌, ℕ, List, [], ◌∷◌, ◌++◌, map, refl, ap, sym, false, Option, Some}
 use Rattle.std.specs.Prelude.{option_map}
 use Rattle.std.proofs.lemmas.List.{map-append}
-use Rattle.cjc_classes.specs.World.Files.{Files}
-use Rattle.cjc_classes.specs.World.Classes.{Class, all_classes, class_at, declared}
+use Rattle.cjc_exported.specs.World.Files.{Files}
+use Rattle.cjc_exported.specs.World.Classes.{Class, all_classes, class_at, declared}
 use Rattle.cjc_classes.proofs.VTableNumbers.{at-tree}
 use Rattle.cjc_classes.specs.TypeInfo.TypeTable as types
 

@@ -1,22 +1,22 @@
 -- Trees of components that are put together.
 use Rattle.std.proofs.Common.{◌≡◌, ℕ, List, map, length, refl, ap, ◌∙◌, Some}
 use Rattle.std.specs.Prelude.{replicate}
-use Rattle.cjc_classes.specs.CapRead.declared.tree.CapTree.{CapTree}
-use Rattle.cjc_classes.specs.CapRead.declared.tree.Directory.{Directory}
-use Rattle.cjc_classes.specs.CapRead.declared.tree.Method.{Method}
-use Rattle.cjc_classes.specs.CapRead.declared.tree.ReferenceLocation.{ReferenceLocation}
-use Rattle.cjc_methods.specs.CapWrite.Size.{info_of}
-use Rattle.cjc_methods.specs.NCode.declared.narrow.PoolKey.{PoolKey}
-use Rattle.cjc_methods.specs.NCode.declared.narrow.PoolKey.TheVariants as keys
-use Rattle.cjc_classes.specs.Components.Class.{class_info}
-use Rattle.cjc_classes.specs.Components.Components.{applet, components_of, components_with, directory_with, header}
-use Rattle.cjc_classes.specs.Components.Components.{import}
-use Rattle.cjc_classes.specs.Components.Components.{method, reference_location, sizes, tags}
-use Rattle.cjc_classes.specs.Components.Descriptor.{descriptor}
-use Rattle.cjc_classes.specs.Components.Exports.{export}
-use Rattle.cjc_classes.specs.Components.Names.{class_ref, pool_entries}
-use Rattle.cjc_classes.specs.Components.Package.{Package, pool}
-use Rattle.cjc_classes.specs.Components.Statics.{cell_offset, static_field}
+use Rattle.cjc_methods.specs.CapRead.declared.tree.CapTree.{CapTree}
+use Rattle.cjc_methods.specs.CapRead.declared.tree.Directory.{Directory}
+use Rattle.cjc_methods.specs.CapRead.declared.tree.Method.{Method}
+use Rattle.cjc_methods.specs.CapRead.declared.tree.ReferenceLocation.{ReferenceLocation}
+use Rattle.cjc_classes.specs.CapWrite.Size.{info_of}
+use Rattle.cjc_classes.specs.NCode.declared.narrow.PoolKey.{PoolKey}
+use Rattle.cjc_classes.specs.NCode.declared.narrow.PoolKey.TheVariants as keys
+use Rattle.cjc_exported.specs.Components.Class.{class_info}
+use Rattle.cjc_exported.specs.Components.Components.{applet, components_of, components_with, directory_with, header}
+use Rattle.cjc_exported.specs.Components.Components.{import}
+use Rattle.cjc_exported.specs.Components.Components.{method, reference_location, sizes, tags}
+use Rattle.cjc_exported.specs.Components.Descriptor.{descriptor}
+use Rattle.cjc_exported.specs.Components.Exports.{export}
+use Rattle.cjc_exported.specs.Components.Names.{class_ref, pool_entries}
+use Rattle.cjc_exported.specs.Components.Package.{Package, pool}
+use Rattle.cjc_exported.specs.Components.Statics.{cell_offset, static_field}
 use Rattle.cjc_classes.specs.Entries as entries
 use Rattle.cjc_classes.specs.Descriptor.Keys.{key_cell}
 use Rattle.cjc_captree.specs.Trees.Working.{HasComponents}

@@ -1,9 +1,9 @@
 -- What ties to a package what is made of it before its components are put together.
 use Rattle.std.specs.Prelude.{◌≡◌, map, length, nat_lt}
 use Rattle.cjc_methods.specs.Ready.{AreOrdered}
-use Rattle.cjc_classes.specs.World.Order.{method_order}
-use Rattle.cjc_classes.specs.Tokens.Tokens.{assigned}
-use Rattle.cjc_classes.specs.Components.Package.{Package, pool, world}
+use Rattle.cjc_exported.specs.World.Order.{method_order}
+use Rattle.cjc_methods.specs.Tokens.Tokens.{assigned}
+use Rattle.cjc_exported.specs.Components.Package.{Package, pool, world}
 use Rattle.cjc_classes.specs.Entries.{key_token}
 use Rattle.cjc_classes.specs.Descriptor.Made.{extents_of}
 use Rattle.cjc_captree.specs.declared.trees.given.Given.{Given}

@@ -1,10 +1,10 @@
 -- What the code and its proofs keep for themselves; a reader of the contracts may pass over it.
 use Rattle.std.specs.Prelude.{◌≡◌, ℕ, List, map, Some}
-use Rattle.cjc_classes.specs.CapRead.declared.tree.CapTree.{CapTree}
-use Rattle.cjc_classes.specs.World.Order.{class_order}
-use Rattle.cjc_classes.specs.Components.Package.{Package, world}
-use Rattle.cjc_classes.specs.Components.Names.{class_ref}
-use Rattle.cjc_classes.specs.Components.Components.{components_with, directory_with}
+use Rattle.cjc_methods.specs.CapRead.declared.tree.CapTree.{CapTree}
+use Rattle.cjc_exported.specs.World.Order.{class_order}
+use Rattle.cjc_exported.specs.Components.Package.{Package, world}
+use Rattle.cjc_exported.specs.Components.Names.{class_ref}
+use Rattle.cjc_exported.specs.Components.Components.{components_with, directory_with}
 use Rattle.cjc_classes.specs.ClassInfo.Refs.{AreRefs}
 use Rattle.cjc_classes.specs.TypeInfo.TypeTable.{class_at}
 use Rattle.cjc_classes.specs.declared.descriptor.parts.Extent.{Extent}

@@ -1,11 +1,11 @@
 -- Where methods stand, one after the other and by their classes.
 use Rattle.std.specs.Prelude.{ℕ, Bool, ◌+◌, ◌==◌, ◌&&◌, not, List, [], ◌∷◌, length, map, if◌then◌else◌}
 use Rattle.std.specs.List.{range_with_len}
-use Rattle.cjc_exported.specs.Layout.declared.layout.Layout.{Layout}
-use Rattle.cjc_classes.specs.World.declared.found.Found.{Found}
-use Rattle.cjc_classes.specs.World.Classes.{Class, all_classes}
-use Rattle.cjc_classes.specs.World.Files.{Files}
-use Rattle.cjc_classes.specs.World.Lookup.{member_at}
+use Rattle.cjc_classes.specs.Layout.declared.layout.Layout.{Layout}
+use Rattle.cjc_exported.specs.World.declared.found.Found.{Found}
+use Rattle.cjc_exported.specs.World.Classes.{Class, all_classes}
+use Rattle.cjc_exported.specs.World.Files.{Files}
+use Rattle.cjc_exported.specs.World.Lookup.{member_at}
 use Rattle.cjc_methods.specs.declared.layouts.laid.Laid.{Laid}
 use Rattle.cjc_classes.specs.Descriptor.Made.{member_count, numbered}
 use Rattle.cjc_classes.specs.declared.descriptor.parts.Extent.{Extent}

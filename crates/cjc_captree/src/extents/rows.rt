@@ -1,8 +1,8 @@
 //! Rows of extents, one for each class of a package. They know no method.
 
 ghost use Rattle.std.specs.Prelude.{◌≡◌, ◌<◌, [], Some, get_or, length, replicate, slice_get, slice_set, IfOk};
-ghost use Rattle.cjc_methods.specs.ClassFile.declared.tree.ClassTree.{ClassTree};
-ghost use Rattle.cjc_classes.specs.World.Classes.{all_classes, declared};
+ghost use Rattle.cjc_classes.specs.ClassFile.declared.tree.ClassTree.{ClassTree};
+ghost use Rattle.cjc_exported.specs.World.Classes.{all_classes, declared};
 ghost use Rattle.cjc_classes.specs.Descriptor.Made.{member_count};
 ghost use Rattle.cjc_captree.specs.Working.Tables.{nowhere, table_of};
 

@@ -2,9 +2,9 @@
 //! for.
 
 ghost use Rattle.std.specs.Prelude.{◌≡◌, ◌+◌, length, map, IfOk};
-ghost use Rattle.cjc_classes.specs.World.Files.{Files};
-ghost use Rattle.cjc_classes.specs.Components.Methods.{placed_methods};
-ghost use Rattle.cjc_classes.specs.Components.Package.{Package};
+ghost use Rattle.cjc_exported.specs.World.Files.{Files};
+ghost use Rattle.cjc_exported.specs.Components.Methods.{placed_methods};
+ghost use Rattle.cjc_exported.specs.Components.Package.{Package};
 ghost use Rattle.cjc_classes.specs.Descriptor.Made.{extents_of};
 ghost use Rattle.cjc_methods.specs.Layouts.Laid.{AreLaid, laid_methods};
 ghost use Rattle.cjc_captree.specs.Working.Tables.{extent_by_layout, extents_by, found_in, nowhere, table_of};

@@ -3,9 +3,9 @@
 
 ghost use Rattle.std.specs.Prelude.{◌≡◌, ◌||◌, false, Some, IfOk};
 ghost use Rattle.std.specs.List.{list_any};
-ghost use Rattle.cjc_exported.specs.Subset.Types.{is_int_desc};
-ghost use Rattle.cjc_classes.specs.World.Classes.{Class, all_classes, class_at};
-ghost use Rattle.cjc_classes.specs.Components.Components.{has_int, uses_int};
+ghost use Rattle.cjc_classes.specs.Subset.Types.{is_int_desc};
+ghost use Rattle.cjc_exported.specs.World.Classes.{Class, all_classes, class_at};
+ghost use Rattle.cjc_exported.specs.Components.Components.{has_int, uses_int};
 
 use cjc_classes::bytes::{MemberId, NoMemory};
 use cjc_classes::classfile::{FieldTree, MethodTree};

@@ -2,12 +2,12 @@
 //! its greatest size, so that the limit says nothing of how jumps are laid out.
 
 ghost use Rattle.std.specs.Prelude.{◌≡◌, ◌+◌, sum_by, option_map, IfOk};
-ghost use Rattle.cjc_classes.specs.Bytes.Breaks.{IsFirstOf};
-ghost use Rattle.cjc_classes.specs.Bytes.Told.{break_of};
-ghost use Rattle.cjc_classes.specs.Components.Components.{components_of};
-ghost use Rattle.cjc_classes.specs.Components.Limits.{size_breaks, widest_method};
-ghost use Rattle.cjc_classes.specs.Components.Methods.{handler_count};
-ghost use Rattle.cjc_classes.specs.Components.Package.{Package, codes};
+ghost use Rattle.cjc_exported.specs.Bytes.Breaks.{IsFirstOf};
+ghost use Rattle.cjc_exported.specs.Bytes.Told.{break_of};
+ghost use Rattle.cjc_exported.specs.Components.Components.{components_of};
+ghost use Rattle.cjc_exported.specs.Components.Limits.{size_breaks, widest_method};
+ghost use Rattle.cjc_exported.specs.Components.Methods.{handler_count};
+ghost use Rattle.cjc_exported.specs.Components.Package.{Package, codes};
 
 use cjc_classes::bytes::{Break, NoMemory, RulePlace};
 use cjc_classes::capread::CapTree;

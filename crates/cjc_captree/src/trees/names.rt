@@ -1,9 +1,9 @@
 //! What names the classes and members of a package in its components: made once, and lent to whoever makes a component.
 
 ghost use Rattle.std.specs.Prelude.{◌≡◌, IfOk};
-ghost use Rattle.cjc_classes.specs.World.Classes.{all_classes};
-ghost use Rattle.cjc_methods.specs.VTable.Tables.{class_tables};
-ghost use Rattle.cjc_classes.specs.Components.Package.{Package};
+ghost use Rattle.cjc_exported.specs.World.Classes.{all_classes};
+ghost use Rattle.cjc_classes.specs.VTable.Tables.{class_tables};
+ghost use Rattle.cjc_exported.specs.Components.Package.{Package};
 ghost use Rattle.cjc_captree.specs.Trees.Given.{AreGiven, HasTokens};
 ghost use Rattle.cjc_captree.specs.Trees.Working.{AreNames};
 

@@ -3,8 +3,8 @@
 
 ghost use Rattle.std.specs.Prelude.{◌≡◌, ◌++◌, map, Some, IfOk, OnOk};
 ghost use Rattle.cjc_methods.specs.Ready.{AreOrdered};
-ghost use Rattle.cjc_classes.specs.World.Classes.{all_classes};
-ghost use Rattle.cjc_classes.specs.World.Order.{class_order};
+ghost use Rattle.cjc_exported.specs.World.Classes.{all_classes};
+ghost use Rattle.cjc_exported.specs.World.Order.{class_order};
 ghost use Rattle.cjc_classes.specs.TypeInfo.TypeTable.{class_at};
 
 use cjc_classes::bytes::{NoMemory, Row};

@@ -2,8 +2,8 @@
 //! size 0. Called by `tree`, which makes Directory last.
 
 ghost use Rattle.std.specs.Prelude.{◌≡◌, length, map, IfOk};
-ghost use Rattle.cjc_methods.specs.CapWrite.Size.{info_of};
-ghost use Rattle.cjc_classes.specs.Components.Components.{tags};
+ghost use Rattle.cjc_classes.specs.CapWrite.Size.{info_of};
+ghost use Rattle.cjc_exported.specs.Components.Components.{tags};
 
 use cjc_classes::bytes::{NoMemory, Row};
 use cjc_classes::capread::CapTree;

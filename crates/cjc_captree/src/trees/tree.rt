@@ -1,17 +1,17 @@
 //! The tree of all components. Each step puts some of them into it, and borrows what they are made from.
 
 ghost use Rattle.std.specs.Prelude.{◌≡◌, Some, length, replicate, IfOk, OnOk};
-ghost use Rattle.cjc_classes.specs.World.Classes.{all_classes};
-ghost use Rattle.cjc_methods.specs.VTable.Tables.{class_tables};
-ghost use Rattle.cjc_classes.specs.Components.Class.{class_info};
-ghost use Rattle.cjc_classes.specs.Components.Components.{applet, components_of, directory_with, header, import};
-ghost use Rattle.cjc_classes.specs.Components.Components.{method};
-ghost use Rattle.cjc_classes.specs.Components.Components.{reference_location};
-ghost use Rattle.cjc_classes.specs.Components.Descriptor.{descriptor};
-ghost use Rattle.cjc_classes.specs.Components.Exports.{export};
-ghost use Rattle.cjc_classes.specs.Components.Names.{class_ref, pool_entries};
-ghost use Rattle.cjc_classes.specs.Components.Package.{Package};
-ghost use Rattle.cjc_classes.specs.Components.Statics.{static_field};
+ghost use Rattle.cjc_exported.specs.World.Classes.{all_classes};
+ghost use Rattle.cjc_classes.specs.VTable.Tables.{class_tables};
+ghost use Rattle.cjc_exported.specs.Components.Class.{class_info};
+ghost use Rattle.cjc_exported.specs.Components.Components.{applet, components_of, directory_with, header, import};
+ghost use Rattle.cjc_exported.specs.Components.Components.{method};
+ghost use Rattle.cjc_exported.specs.Components.Components.{reference_location};
+ghost use Rattle.cjc_exported.specs.Components.Descriptor.{descriptor};
+ghost use Rattle.cjc_exported.specs.Components.Exports.{export};
+ghost use Rattle.cjc_exported.specs.Components.Names.{class_ref, pool_entries};
+ghost use Rattle.cjc_exported.specs.Components.Package.{Package};
+ghost use Rattle.cjc_exported.specs.Components.Statics.{static_field};
 ghost use Rattle.cjc_classes.specs.Descriptor.Fits.{AreFit};
 ghost use Rattle.cjc_captree.specs.Trees.Given.{AreGiven, HasTokens};
 ghost use Rattle.cjc_captree.specs.Trees.Working.{AreNames, HasComponents};

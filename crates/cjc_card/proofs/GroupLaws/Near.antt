@@ -3,11 +3,11 @@ use Rattle.std.proofs.Common.{◌≡◌, ℕ, ◌+◌, ◌<◌, ◌≤◌, List,
 use Rattle.std.specs.Prelude.{◌&&◌}
 use Rattle.std.proofs.Math.Bool.{and-true}
 use Rattle.std.proofs.lemmas.List.{drop_more, drop_all}
-use Rattle.cjc_card_frame.specs.ExportFile.declared.tree.ExportTree.{ExportTree}
+use Rattle.cjc_card_semantics.specs.ExportFile.declared.tree.ExportTree.{ExportTree}
 use Rattle.cjc_card_semantics.specs.Machine.Loaded.{Loaded}
-use Rattle.cjc_card_calls.specs.CardLink.declared.part.GroupPart.{GroupPart}
-use Rattle.cjc_card_calls.specs.CardLink.declared.part.Part.{Part}
-use Rattle.cjc_card_calls.specs.CardLink.Group.{alone, group_of, group_part}
+use Rattle.cjc_card_calls.specs.LowerCardLink.declared.part.GroupPart.{GroupPart}
+use Rattle.cjc_card_calls.specs.LowerCardLink.declared.part.Part.{Part}
+use Rattle.cjc_card_calls.specs.LowerCardLink.Group.{alone, group_of, group_part}
 use Rattle.cjc_card_calls.specs.Lines.Handlers.{are_all_near, are_near, are_parts_near}
 
 pub near_alone : (p : Part) (trees : List ExportTree) (l : Loaded) → l ≡ alone p trees

@@ -1,7 +1,7 @@
 -- An instruction that has followed its row, as the machine goes on from it.
 use Rattle.std.proofs.Common.{◌≡◌, ℕ, ◌+◌, ◌≤◌, List, length, refl, sym, ap, ◌∙◌, arith}
 use Rattle.std.specs.Prelude.{Some, None, option_map, slice_get}
-use Rattle.cjc_card_frame.specs.CapRead.Decode.{Instruction, size}
+use Rattle.cjc_card_semantics.specs.CapRead.Decode.{Instruction, size}
 use Rattle.cjc_card_semantics.specs.Bytecode.Machine.{StuckAt, counted, turn_after_fault, turn_after_fetch, left, made}
 use Rattle.cjc_card_semantics.specs.Bytecode.Machine.{turn_after_toss}
 use Rattle.cjc_card_semantics.specs.Machine.Loaded.{Loaded}

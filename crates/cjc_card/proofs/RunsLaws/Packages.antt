@@ -4,7 +4,7 @@ use Rattle.std.proofs.Common.{◌≡◌, ℕ, ◌+◌, ◌<◌, List, [], ◌∷
 use Rattle.std.proofs.Common.{append_assoc, Bor, true, false}
 use Rattle.std.proofs.lemmas.List.{append-nil, length-append, length-map}
 use Rattle.std.specs.Prelude.{Option, Some, None, is_some, option_copied, option_map, slice_get}
-use Rattle.cjc_card_frame.specs.CapRead.declared.tree.StaticField.{StaticField}
+use Rattle.cjc_card_semantics.specs.CapRead.declared.tree.StaticField.{StaticField}
 use Rattle.cjc_script.specs.declared.report.FieldValue.{FieldValue}
 use Rattle.cjc_card_semantics.specs.Machine.Loaded.{CellName, Part}
 use Rattle.cjc_card_semantics.specs.Machine.Statics.{Image, first_array, first_arrays, first_image, first_images}

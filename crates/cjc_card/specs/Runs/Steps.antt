@@ -1,6 +1,6 @@
 -- What is left to do of an instruction that has changed its frame, the heap and the static cells.
 use Rattle.std.specs.Prelude.{ℕ, ◌+◌, List, ◌∷◌, Some, slice_get}
-use Rattle.cjc_card_frame.specs.CapRead.Decode.{Instruction}
+use Rattle.cjc_card_semantics.specs.CapRead.Decode.{Instruction}
 use Rattle.cjc_card_semantics.specs.Bytecode.Machine.{Next, StuckAt, counted, turn_after_fault, turn_after_fetch, left}
 use Rattle.cjc_card_semantics.specs.Bytecode.Machine.{turn_after_toss}
 use Rattle.cjc_card_semantics.specs.Machine.Loaded.{Loaded}

@@ -4,8 +4,8 @@
 ghost use Rattle.std.specs.Prelude.{◌≡◌, ℕ, List, Bool, map, option_map};
 ghost use Rattle.cjc_script.specs.declared.value.Value.TheVariants.{Num};
 ghost use Rattle.cjc_script.specs.Sorts.{Shape as ShapeOf, all_fit, fits, result_fits};
-ghost use Rattle.cjc_card_frame.specs.JvmStep.Heap.Kinds.{elements_of};
-ghost use Rattle.cjc_card_frame.specs.JvmStep.Step.Names.{shape_meant};
+ghost use Rattle.cjc_jvm.specs.JvmStep.Heap.Kinds.{elements_of};
+ghost use Rattle.cjc_jvm.specs.JvmStep.Step.Names.{shape_meant};
 ghost use Rattle.cjc_jvm.specs.Acts.Meant.{sort_meant};
 ghost use Rattle.cjc_card_semantics.specs.Bytecode.Machine.{item_fits, object_fits, shape_of as shape_by_name};
 ghost use Rattle.cjc_card_semantics.specs.Machine.ByToken.{by_token};

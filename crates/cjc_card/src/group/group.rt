@@ -3,10 +3,10 @@
 
 ghost use Rattle.std.specs.Prelude.{◌≡◌, ◌<◌, ◌^◌, map, true, IfOk, OnOk};
 ghost use Rattle.std.specs.List.{AllByRecursion};
-ghost use Rattle.cjc_card_calls.specs.CheckRules.Complete.{class_info_size};
+ghost use Rattle.cjc_card_calls.specs.LowerCheckRules.Complete.{class_info_size};
 ghost use Rattle.cjc_card_calls.specs.Lines.Handlers.{are_all_near, are_near, are_parts_near};
-ghost use Rattle.cjc_card_calls.specs.CardLink.Group.{alone, group_of, group_part};
-ghost use Rattle.cjc_card_calls.specs.CardLink.Tables.{AreKept, loaded_of};
+ghost use Rattle.cjc_card_calls.specs.LowerCardLink.Group.{alone, group_of, group_part};
+ghost use Rattle.cjc_card_calls.specs.LowerCardLink.Tables.{AreKept, loaded_of};
 
 use cjc_card_calls::card_link::{GroupPart, Part, Tables};
 use cjc_card_calls::files::Files;
@@ -27,7 +27,7 @@ pub struct Group<'a> {
 
 impl<'a> Model for Group<'a> {
     ghost use Rattle.cjc_card_semantics.specs.Machine.Loaded.{Loaded};
-    ghost use Rattle.cjc_card_calls.specs.CardLink.Tables.{loaded_of};
+    ghost use Rattle.cjc_card_calls.specs.LowerCardLink.Tables.{loaded_of};
     ghost use Rattle.cjc_card.specs.Ready.{AreReady};
 
     ghost Value = { Loaded };

@@ -3,7 +3,7 @@
 ghost use Rattle.std.specs.Prelude.{◌≡◌, map, option_map, slice_get};
 ghost use Rattle.std.specs.Option.{option_copied};
 ghost use Rattle.cjc_card_frame.specs.Kinds.{cell_name_of, cells_of};
-ghost use Rattle.cjc_card_calls.specs.CardLink.Tables.{loaded_of};
+ghost use Rattle.cjc_card_calls.specs.LowerCardLink.Tables.{loaded_of};
 
 use crate::group::faults::fault_name;
 use crate::group::group::Group;

@@ -9,8 +9,8 @@ ghost use Rattle.cjc_card_semantics.specs.Machine.Classes.{same_field};
 ghost use Rattle.cjc_card_semantics.specs.Machine.ByToken.{shown_field, shown_fields, shown_own, shown_upwards};
 ghost use Rattle.cjc_card_semantics.specs.Machine.ByToken.{value_or};
 ghost use Rattle.cjc_card_frame.specs.Objects.{class_of, slot_by};
-ghost use Rattle.cjc_card_calls.specs.CardLink.Names.{class_names_of, field_name_of};
-ghost use Rattle.cjc_card_calls.specs.CardLink.Tables.{AreKept, loaded_of};
+ghost use Rattle.cjc_card_calls.specs.LowerCardLink.Names.{class_names_of, field_name_of};
+ghost use Rattle.cjc_card_calls.specs.LowerCardLink.Tables.{AreKept, loaded_of};
 
 use crate::acts::{field_letter, zero_of};
 use cjc_card_calls::card_link::{ClassNames, FieldName, Tables};

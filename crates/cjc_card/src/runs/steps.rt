@@ -2,7 +2,7 @@
 //! `runs`, which does not look into instructions.
 
 ghost use Rattle.std.specs.Prelude.{◌≡◌, ◌<◌, ◌≤◌, ◌+◌, ◌^◌, ◌∷◌, ℕ, List, IfOk, OnOk};
-ghost use Rattle.cjc_card_frame.specs.CapRead.Decoder.Decoded.{IsAtFront, instruction_of};
+ghost use Rattle.cjc_card_semantics.specs.CapRead.Decoder.Decoded.{IsAtFront, instruction_of};
 ghost use Rattle.cjc_card_semantics.specs.Bytecode.Machine.{turn_after_fetch, step};
 ghost use Rattle.cjc_card_semantics.specs.Machine.ByToken.{by_token};
 ghost use Rattle.cjc_card_frame.specs.Kinds.{IsDecoded};

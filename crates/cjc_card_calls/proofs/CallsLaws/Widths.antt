@@ -1,8 +1,8 @@
 -- The words of parameters are counted one by one.
 use Rattle.std.proofs.Common.{◌≡◌, ℕ, ◌+◌, ◌<◌, ◌≤◌, List, length, get_or, drop, map, ap, arith}
 use Rattle.std.proofs.lemmas.List.{drop_more, drop_all}
-use Rattle.cjc_card_frame.specs.Bytes.Descriptor.{Part}
-use Rattle.cjc_card_frame.specs.Script.Sorts.{sort_of}
+use Rattle.cjc_card_semantics.specs.Bytes.Descriptor.{Part}
+use Rattle.cjc_card_semantics.specs.Script.Sorts.{sort_of}
 use Rattle.cjc_card_semantics.specs.Bytecode.Arguments.{width, widths}
 
 pub widths_next : (words : ℕ) (parts : List Part) (i : ℕ) (d : Part) (total : ℕ) → i < length parts

@@ -5,8 +5,8 @@ use Rattle.std.specs.Prelude.{if◌then◌else◌, is_some, ◌||◌}
 use Rattle.std.specs.Borrow.{Bor}
 use Rattle.std.specs.Str.{bytes_eq}
 use Rattle.std.proofs.lemmas.List.{append-nil, append_assoc, drop_more, map-append, nil_from_length}
-use Rattle.cjc_card_frame.specs.ExportFile.declared.tree.ExportClass.{ExportClass}
-use Rattle.cjc_card_frame.specs.ExportFile.Supers.{class_named, is_one_of, super_count, upwards_from, with_class}
+use Rattle.cjc_card_semantics.specs.ExportFile.declared.tree.ExportClass.{ExportClass}
+use Rattle.cjc_card_semantics.specs.ExportFile.Supers.{class_named, is_one_of, super_count, upwards_from, with_class}
 use Rattle.cjc_card_semantics.specs.Machine.Classes.{or_else}
 use Rattle.cjc_card_calls.specs.Files.Climbs.{climb_from}
 use Rattle.cjc_card_calls.specs.Files.Files.{classes_at, line_of}

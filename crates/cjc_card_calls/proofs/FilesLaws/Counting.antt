@@ -1,9 +1,9 @@
 -- Supers are counted file by file.
 use Rattle.std.proofs.Common.{◌≡◌, ℕ, ◌+◌, ◌<◌, List, [], ◌∷◌, ◌++◌, length, get_or, drop, ap, arith}
 use Rattle.std.proofs.lemmas.List.{at_drop_more}
-use Rattle.cjc_card_frame.specs.ExportFile.declared.tree.ExportClass.{ExportClass}
-use Rattle.cjc_card_frame.specs.ExportFile.declared.tree.ExportTree.{ExportTree}
-use Rattle.cjc_card_frame.specs.ExportFile.Supers.{classes_of, super_count}
+use Rattle.cjc_card_semantics.specs.ExportFile.declared.tree.ExportClass.{ExportClass}
+use Rattle.cjc_card_semantics.specs.ExportFile.declared.tree.ExportTree.{ExportTree}
+use Rattle.cjc_card_semantics.specs.ExportFile.Supers.{classes_of, super_count}
 
 super_count-append : (xs ys : List ExportClass) → super_count (xs ++ ys) ≡ super_count xs + super_count ys
 super_count-append [] ys = omega arith

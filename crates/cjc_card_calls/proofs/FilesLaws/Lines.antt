@@ -4,9 +4,9 @@ use Rattle.std.proofs.Common.{◌∙◌, Bool, true, false, Option, Some, None, 
 use Rattle.std.specs.Prelude.{if◌then◌else◌, ◌==◌, option_and_then, option_map, slice_get, unwrap_or}
 use Rattle.std.specs.Borrow.{Bor}
 use Rattle.std.proofs.lemmas.List.{length-append, length-take-le, take_more}
-use Rattle.cjc_card_frame.specs.ExportFile.declared.tree.ExportClass.{ExportClass}
-use Rattle.cjc_card_frame.specs.ExportFile.declared.tree.ExportTree.{ExportTree}
-use Rattle.cjc_card_frame.specs.ExportFile.Supers.{classes_of}
+use Rattle.cjc_card_semantics.specs.ExportFile.declared.tree.ExportClass.{ExportClass}
+use Rattle.cjc_card_semantics.specs.ExportFile.declared.tree.ExportTree.{ExportTree}
+use Rattle.cjc_card_semantics.specs.ExportFile.Supers.{classes_of}
 use Rattle.cjc_card_semantics.specs.Machine.Loaded.{Loaded}
 use Rattle.cjc_card_semantics.specs.Machine.Classes.{or_else, with_token}
 use Rattle.cjc_card_semantics.specs.Machine.Dispatch.{exported_line}

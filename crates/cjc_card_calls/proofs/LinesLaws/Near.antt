@@ -4,8 +4,8 @@ use Rattle.std.proofs.Common.{arith, true, false, Option, Some}
 use Rattle.std.specs.Prelude.{option_and_then, slice_get, nat_lt}
 use Rattle.std.proofs.lemmas.Bool.Decides.{nat_tests}
 use Rattle.std.proofs.lemmas.List.{drop_more}
-use Rattle.cjc_card_frame.specs.CapRead.declared.tree.Handler.{Handler}
-use Rattle.cjc_card_frame.specs.Script.Sorts.{Shape}
+use Rattle.cjc_card_semantics.specs.CapRead.declared.tree.Handler.{Handler}
+use Rattle.cjc_card_semantics.specs.Script.Sorts.{Shape}
 use Rattle.cjc_card_semantics.specs.Machine.Loaded.{Part, Loaded}
 use Rattle.cjc_card_semantics.specs.Machine.Classes.{Class}
 use Rattle.cjc_card_semantics.specs.Machine.Methods.{Code, handler, handler_among, handler_in}

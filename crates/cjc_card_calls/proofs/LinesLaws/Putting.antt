@@ -4,7 +4,7 @@ use Rattle.std.proofs.Common.{ap, ◌∙◌, arith, append_assoc, Option, Some, 
 use Rattle.std.specs.Prelude.{option_map, option_and_then, option_to_list, slice_get}
 use Rattle.std.proofs.lemmas.List.{drop_more, drop_all, append-nil, length-map}
 use Rattle.std.proofs.lemmas.Option.{slice_get-map}
-use Rattle.cjc_card_link.specs.CheckRules.Spots.{starts}
+use Rattle.cjc_card_link.specs.LowerCheckRules.Spots.{starts}
 use Rattle.cjc_card_semantics.specs.Machine.Loaded.{Part}
 use Rattle.cjc_card_semantics.specs.Machine.Classes.{Class, Own, info_size, infos, offset_of}
 use Rattle.cjc_card_link.specs.Tables.{class_count}

@@ -4,8 +4,8 @@ use Rattle.std.proofs.Common.{Option, Some, None}
 use Rattle.std.specs.Prelude.{nat_lt, not, option_and_then, option_map, position, slice_get, if◌then◌else◌}
 use Rattle.std.specs.List.{prefix_len}
 use Rattle.std.proofs.lemmas.Bool.Decides.{nat_tests}
-use Rattle.cjc_card_frame.specs.Bytes.declared.fault.MemberId.{MemberId}
-use Rattle.cjc_card_frame.specs.CapRead.declared.tree.MethodDescriptor.{MethodDescriptor}
+use Rattle.cjc_card_semantics.specs.Bytes.declared.fault.MemberId.{MemberId}
+use Rattle.cjc_card_semantics.specs.CapRead.declared.tree.MethodDescriptor.{MethodDescriptor}
 use Rattle.cjc_card_semantics.specs.Machine.Loaded.{MethodName}
 use Rattle.cjc_card_semantics.specs.Machine.Calls.{is_named, named_among, place_named}
 

@@ -1,8 +1,8 @@
 -- Going upwards: what is met so far, and what is still met.
 use Rattle.std.specs.Prelude.{ℕ, zero, suc, ◌||◌, List, [], ◌∷◌, ◌++◌, Bool, if◌then◌else◌}
 use Rattle.std.specs.Str.{bytes_eq}
-use Rattle.cjc_card_frame.specs.ExportFile.declared.tree.ExportClass.{ExportClass}
-use Rattle.cjc_card_frame.specs.ExportFile.Supers.{class_named, with_class}
+use Rattle.cjc_card_semantics.specs.ExportFile.declared.tree.ExportClass.{ExportClass}
+use Rattle.cjc_card_semantics.specs.ExportFile.Supers.{class_named, with_class}
 use Rattle.cjc_card_calls.specs.declared.files.upwards.Climb.{Climb}
 use Rattle.cjc_card_calls.specs.Files.Files.{classes_at}
 use Rattle.cjc_card_calls.specs.Files.Named.{is_passed}

@@ -4,8 +4,8 @@ use Rattle.std.specs.Borrow.{Bor}
 use Rattle.std.specs.HashMap.{get_by}
 use Rattle.std.specs.Option.{option_copied}
 use Rattle.std.specs.Str.{bytes_eq}
-use Rattle.cjc_card_frame.specs.ExportFile.declared.tree.ExportClass.{ExportClass}
-use Rattle.cjc_card_frame.specs.ExportFile.Supers.{class_named, super_count}
+use Rattle.cjc_card_semantics.specs.ExportFile.declared.tree.ExportClass.{ExportClass}
+use Rattle.cjc_card_semantics.specs.ExportFile.Supers.{class_named, super_count}
 use Rattle.cjc_card_calls.specs.declared.files.named.ByName.{ByName}
 use Rattle.cjc_card_calls.specs.declared.files.upwards.Passed.{Passed}
 

@@ -1,7 +1,7 @@
 -- All classes of packages and of the export files that they import, in their order.
 use Rattle.std.specs.Prelude.{ℕ, ◌+◌, List, [], ◌∷◌, ◌++◌, map, Option, Some, None}
-use Rattle.cjc_card_frame.specs.ExportFile.declared.tree.ExportTree.{ExportTree}
-use Rattle.cjc_card_link.specs.CheckRules.Spots.{starts}
+use Rattle.cjc_card_semantics.specs.ExportFile.declared.tree.ExportTree.{ExportTree}
+use Rattle.cjc_card_link.specs.LowerCheckRules.Spots.{starts}
 use Rattle.cjc_card_semantics.specs.Machine.Loaded.{Part, Loaded}
 use Rattle.cjc_card_semantics.specs.Machine.Classes.{Class, Own, External, info_size, infos}
 

@@ -1,6 +1,6 @@
 -- That the offsets of all handlers of a group are counted by 32 bits, as the code holds them.
 use Rattle.std.specs.Prelude.{List, [], ◌∷◌, Bool, true, nat_lt, ◌&&◌}
-use Rattle.cjc_card_frame.specs.CapRead.declared.tree.Handler.{Handler}
+use Rattle.cjc_card_semantics.specs.CapRead.declared.tree.Handler.{Handler}
 use Rattle.cjc_card_semantics.specs.Machine.Loaded.{Part, Loaded}
 
 -- 32 bits count the offsets of handlers

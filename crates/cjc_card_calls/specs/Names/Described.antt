@@ -1,7 +1,7 @@
 -- What Descriptor says of methods by their names.
 use Rattle.std.specs.Prelude.{ℕ, List, Option, option_and_then, option_map}
-use Rattle.cjc_card_frame.specs.Bytes.declared.fault.MemberId.{MemberId}
-use Rattle.cjc_card_frame.specs.CapRead.declared.tree.ClassDescriptor.{ClassDescriptor}
+use Rattle.cjc_card_semantics.specs.Bytes.declared.fault.MemberId.{MemberId}
+use Rattle.cjc_card_semantics.specs.CapRead.declared.tree.ClassDescriptor.{ClassDescriptor}
 use Rattle.cjc_card_semantics.specs.Machine.Loaded.{MethodName}
 use Rattle.cjc_card_semantics.specs.Machine.Calls.{Described, class_among, named_among}
 use Rattle.cjc_card_calls.specs.declared.names.described.Described.{Described as DescribedData}

@@ -1,6 +1,6 @@
 -- What a method that a script names is on a receiver, by steps.
 use Rattle.std.specs.Prelude.{suc, Option}
-use Rattle.cjc_card_frame.specs.Bytes.declared.fault.MemberId.{MemberId}
+use Rattle.cjc_card_semantics.specs.Bytes.declared.fault.MemberId.{MemberId}
 use Rattle.cjc_card_semantics.specs.Machine.Loaded.{Loaded}
 use Rattle.cjc_card_semantics.specs.Machine.Classes.{Class, depth, object_class}
 use Rattle.cjc_card_semantics.specs.Machine.Calls.{found_token, interface_token, sent_by, through}

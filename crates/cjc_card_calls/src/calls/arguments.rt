@@ -2,7 +2,7 @@
 
 ghost use Rattle.std.specs.Prelude.{◌≡◌, ◌+◌, ◌<◌, ◌≤◌, ◌^◌, ℕ, List, map, option_map, if◌then◌else◌, IfOk};
 ghost use Rattle.cjc_card_semantics.specs.Bytecode.Arguments.{width, widths};
-ghost use Rattle.cjc_card_frame.specs.Script.Sorts.{signature_of, sort_by, sort_of};
+ghost use Rattle.cjc_card_semantics.specs.Script.Sorts.{signature_of, sort_by, sort_of};
 ghost use Rattle.cjc_card_semantics.specs.Machine.Calls.{argument_words, words, words_of};
 ghost use Rattle.cjc_card_semantics.specs.Machine.Dispatch.{At};
 ghost use Rattle.cjc_card_frame.specs.Kinds.{callee_of};

@@ -3,7 +3,7 @@
 
 ghost use Rattle.std.specs.Prelude.{◌≡◌, ◌==◌, ◌&&◌};
 ghost use Rattle.std.specs.Option.{option_copied};
-ghost use Rattle.cjc_card_frame.specs.ExportFile.Supers.{is_virtual, virtual_method};
+ghost use Rattle.cjc_card_semantics.specs.ExportFile.Supers.{is_virtual, virtual_method};
 ghost use Rattle.cjc_card_semantics.specs.Machine.Dispatch.{dispatched_outward, in_files, of_file, outward};
 ghost use Rattle.cjc_card_semantics.specs.Machine.Dispatch as dispatch;
 ghost use Rattle.cjc_card_semantics.specs.Machine.Loaded.{Loaded};

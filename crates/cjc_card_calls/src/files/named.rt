@@ -4,7 +4,7 @@
 ghost use Rattle.std.specs.Prelude.{◌≡◌, ℕ, List, Some, None, IfOk, OnOk, if◌then◌else◌};
 ghost use Rattle.std.specs.Option.{option_copied};
 ghost use Rattle.std.specs.Str.{bytes_eq};
-ghost use Rattle.cjc_card_frame.specs.ExportFile.Supers.{class_named, classes_of, super_count};
+ghost use Rattle.cjc_card_semantics.specs.ExportFile.Supers.{class_named, classes_of, super_count};
 ghost use Rattle.cjc_card_semantics.specs.Machine.Classes.{or_else};
 ghost use Rattle.cjc_card_calls.specs.Files.Named.{class_under};
 
@@ -88,8 +88,8 @@ pub(crate) struct Named<'a> {
 
 impl<'a> Model for Named<'a> {
     ghost use Rattle.std.specs.Prelude.{List};
-    ghost use Rattle.cjc_card_frame.specs.ExportFile.declared.tree.ExportClass.{ExportClass as Class};
-    ghost use Rattle.cjc_card_frame.specs.ExportFile.Supers.{classes_of};
+    ghost use Rattle.cjc_card_semantics.specs.ExportFile.declared.tree.ExportClass.{ExportClass as Class};
+    ghost use Rattle.cjc_card_semantics.specs.ExportFile.Supers.{classes_of};
     ghost use Rattle.cjc_card_calls.specs.Files.Named.{AreNamed};
 
     ghost Value = { List Class };

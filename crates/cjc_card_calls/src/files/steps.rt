@@ -1,7 +1,7 @@
 //! How many supers the classes of export files list in all: so many steps reach all that stands above some names.
 
 ghost use Rattle.std.specs.Prelude.{◌≡◌, ◌+◌, IfOk};
-ghost use Rattle.cjc_card_frame.specs.ExportFile.Supers.{classes_of, super_count};
+ghost use Rattle.cjc_card_semantics.specs.ExportFile.Supers.{classes_of, super_count};
 
 use cjc_card_semantics::bytes::NoMemory;
 use cjc_card_semantics::export_file::{ExportClass, ExportTree};

@@ -3,7 +3,7 @@
 
 ghost use Rattle.std.specs.Prelude.{◌≡◌, map, option_map};
 ghost use Rattle.std.specs.Option.{option_copied};
-ghost use Rattle.cjc_card_frame.specs.CapRead.ClassRefs.{is_inside};
+ghost use Rattle.cjc_card_semantics.specs.CapRead.ClassRefs.{is_inside};
 ghost use Rattle.cjc_card_semantics.specs.Machine.Calls.{class_among, declared, described_token, has_no_token};
 ghost use Rattle.cjc_card_semantics.specs.Machine.Classes.{Own};
 ghost use Rattle.cjc_card_frame.specs.Objects.{class_of};

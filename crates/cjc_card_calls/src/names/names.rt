@@ -3,7 +3,7 @@
 
 ghost use Rattle.std.specs.Prelude.{◌≡◌, ◌&&◌, map, position, slice_get, if◌then◌else◌, Some, None};
 ghost use Rattle.std.specs.Str.{bytes_eq};
-ghost use Rattle.cjc_card_frame.specs.ExportFile.Supers.{is_virtual};
+ghost use Rattle.cjc_card_semantics.specs.ExportFile.Supers.{is_virtual};
 ghost use Rattle.cjc_card_semantics.specs.Machine.Calls.{is_named, listed_token, named_among, place_named};
 ghost use Rattle.cjc_card_semantics.specs.Machine.Calls.{token_in_files};
 ghost use Rattle.cjc_card_link.specs.Names.{method_name_of};

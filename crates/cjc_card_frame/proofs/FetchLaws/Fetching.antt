@@ -1,7 +1,7 @@
 -- What is fetched, by the bytes of the methods.
 use Rattle.std.proofs.Common.{◌≡◌, ℕ, ◌+◌, refl, ap, ◌∙◌, Bool, true, false}
 use Rattle.std.specs.Prelude.{Option, Some, None, option_map, option_and_then, nat_le, slice_get, if◌then◌else◌}
-use Rattle.cjc_jvm_step.specs.CapRead.Decode.{Instruction, decode, size}
+use Rattle.cjc_card_semantics.specs.CapRead.Decode.{Instruction, decode, size}
 use Rattle.cjc_card_semantics.specs.Machine.Loaded.{Loaded, Part}
 use Rattle.cjc_card_semantics.specs.Machine.Methods.{Code, fetch, fetched_as, fetched_within, fetched_in, bytes_from}
 use Rattle.cjc_card_semantics.specs.Machine.Methods.{methods_begin}

@@ -4,13 +4,13 @@ use Rattle.std.proofs.Common.{sym, ap, ◌∙◌, arith, Option, Some, ℤ}
 use Rattle.std.specs.Prelude.{◌&&◌, if◌then◌else◌}
 use Rattle.std.specs.Int.RustNames.{int_le}
 use Rattle.std.proofs.lemmas.Option.{same_Some}
-use Rattle.cjc_jvm_step.specs.CapRead.Opcodes.{Signed2}
-use Rattle.cjc_jvm_step.specs.CapRead.Decode.{First, operand, signed}
+use Rattle.cjc_card_semantics.specs.CapRead.Opcodes.{Signed2}
+use Rattle.cjc_card_semantics.specs.CapRead.Decode.{First, operand, signed}
 use Rattle.cjc_card_semantics.specs.Bytecode.Effects.{arm_of}
 use Rattle.cjc_card_semantics.specs.Machine.Operations.{moved, paired}
-use Rattle.cjc_jvm_step.specs.CapRead.declared.decoder.table.Matches.TheVariants.{Short, Int}
-use Rattle.cjc_jvm_step.specs.CapRead.Decoder.Decoded.{numbers}
-use Rattle.cjc_jvm_step.specs.CapRead.Decoder.Shapes.{entry_size, matches_of, match_of}
+use Rattle.cjc_card_semantics.specs.CapRead.declared.decoder.table.Matches.TheVariants.{Short, Int}
+use Rattle.cjc_card_semantics.specs.CapRead.Decoder.Decoded.{numbers}
+use Rattle.cjc_card_semantics.specs.CapRead.Decoder.Shapes.{entry_size, matches_of, match_of}
 
 pub value_is : (x y : ℤ) (r s : List ℕ) → ◌≡◌ {A = Option First} (Some (record { value = x; rest = r }))
     (Some (record { value = y; rest = s })) → x ≡ y

@@ -4,12 +4,12 @@ use Rattle.std.proofs.Common.{sym, ap, ◌∙◌, arith, Some, None, ℤ, pos, �
 use Rattle.std.specs.Prelude.{slice_get, if◌then◌else◌}
 use Rattle.std.specs.Int.RustNames.{int_le}
 use Rattle.std.proofs.lemmas.Int.{ints}
-use Rattle.cjc_jvm_step.specs.CapRead.Opcodes.{Signed2}
-use Rattle.cjc_jvm_step.specs.CapRead.Decode.{operand, signed}
+use Rattle.cjc_card_semantics.specs.CapRead.Opcodes.{Signed2}
+use Rattle.cjc_card_semantics.specs.CapRead.Decode.{operand, signed}
 use Rattle.cjc_card_semantics.specs.Bytecode.Effects.{arm_of, with_some}
 use Rattle.cjc_card_semantics.specs.Machine.Operations.{moved, ranged}
-use Rattle.cjc_jvm_step.specs.CapRead.declared.decoder.table.Matches.TheVariants.{Counted}
-use Rattle.cjc_jvm_step.specs.CapRead.Decoder.Decoded.{numbers}
+use Rattle.cjc_card_semantics.specs.CapRead.declared.decoder.table.Matches.TheVariants.{Counted}
+use Rattle.cjc_card_semantics.specs.CapRead.Decoder.Decoded.{numbers}
 use Rattle.cjc_card_frame.proofs.FetchLaws.Pairs.{value_is}
 use Rattle.cjc_card_semantics.proofs.BytesIntegers.{le_true, le_false}
 

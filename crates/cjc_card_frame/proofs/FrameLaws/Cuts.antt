@@ -3,7 +3,7 @@ use Rattle.std.proofs.Common.{◌≡◌, ℕ, ◌-◌, ◌%◌, ◌<◌, sym, ap
 use Rattle.std.specs.Prelude.{FitsSigned}
 use Rattle.std.specs.Int.{w16, w32, int_rem_euclid, cast_unsigned, int_bit_and, int_bit_or, int_bit_xor}
 use Rattle.std.proofs.lemmas.Int.{ints, int_wrap-add_left}
-use Rattle.cjc_jvm_step.specs.Range.Words.{wide, low_word}
+use Rattle.cjc_card_semantics.specs.Range.Words.{wide, low_word}
 use Rattle.cjc_card_semantics.proofs.RangeWords.{low_word-wide, low_word-and, low_word-or, low_word-xor}
 use Rattle.cjc_card_semantics.proofs.RangeWords.{low_word_fits}
 use Rattle.cjc_card_semantics.proofs.RangeWords.{low_word_fixed}

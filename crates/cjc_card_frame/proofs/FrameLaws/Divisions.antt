@@ -2,9 +2,9 @@
 use Rattle.std.proofs.Common.{◌≡◌, ◌≢◌, ℕ, zero, suc, refl, sym, ap, ◌∙◌, List, ◌∷◌, drop, ℤ, pos, negsuc, Bool, true}
 use Rattle.std.proofs.Common.{false}
 use Rattle.std.specs.Prelude.{Option, Some, if◌then◌else◌}
-use Rattle.cjc_card_semantics.specs.LowerScript.declared.value.Value.{Value}
-use Rattle.cjc_card_semantics.specs.LowerScript.declared.value.Value.TheVariants.{Num}
-use Rattle.cjc_jvm_step.specs.Range.Words.{wide, low_word}
+use Rattle.cjc_card_semantics.specs.Script.declared.value.Value.{Value}
+use Rattle.cjc_card_semantics.specs.Script.declared.value.Value.TheVariants.{Num}
+use Rattle.cjc_card_semantics.specs.Range.Words.{wide, low_word}
 use Rattle.cjc_card_semantics.proofs.RangeWords.{low_word-wide}
 use Rattle.cjc_card_semantics.specs.Bytecode.Numbers.{is_zero}
 use Rattle.cjc_card_semantics.specs.Bytecode.Calculations.{Result, Fine, Fails, Wrong, Arithmetic, divided}

@@ -1,9 +1,9 @@
 -- A local's number that is increased.
 use Rattle.std.proofs.Common.{◌≡◌, ℕ, ◌+◌, refl, sym, ap, ◌∙◌, List, [], ◌∷◌, ℤ, pos, ◌+ℤ◌}
 use Rattle.std.specs.Prelude.{Option, Some, None, slice_get, slice_set}
-use Rattle.cjc_card_semantics.specs.LowerScript.declared.value.Value.{Value}
-use Rattle.cjc_card_semantics.specs.LowerScript.declared.value.Value.TheVariants.{Num, Null, Obj}
-use Rattle.cjc_jvm_step.specs.Range.Words.{wide, low_word}
+use Rattle.cjc_card_semantics.specs.Script.declared.value.Value.{Value}
+use Rattle.cjc_card_semantics.specs.Script.declared.value.Value.TheVariants.{Num, Null, Obj}
+use Rattle.cjc_card_semantics.specs.Range.Words.{wide, low_word}
 use Rattle.cjc_card_semantics.proofs.RangeWords.{low_word-wide}
 use Rattle.cjc_card_semantics.specs.Bytecode.Numbers.{high_word, spelt_by}
 use Rattle.cjc_card_semantics.specs.Bytecode.Calculations.{Result, Fine, Wrong, number_in, increased, int_increased}

@@ -1,7 +1,7 @@
 -- One byte that gives two numbers.
 use Rattle.std.proofs.Common.{◌≡◌, ℕ, ◌/◌, ◌%◌, refl, ◌∙◌, List, [], ◌∷◌, ℤ, pos, negsuc}
 use Rattle.std.specs.Prelude.{Option}
-use Rattle.cjc_card_semantics.specs.LowerScript.declared.value.Value.{Value}
+use Rattle.cjc_card_semantics.specs.Script.declared.value.Value.{Value}
 use Rattle.cjc_card_semantics.specs.Bytecode.Calculations.{Calculation, Wrong, by_nibbles, numbered}
 use Rattle.cjc_card_frame.specs.Frame.Frames.{NoLocal}
 

@@ -5,7 +5,7 @@ use Rattle.std.specs.Prelude.{Option, Some, None, slice_get}
 use Rattle.std.specs.List.{All}
 use Rattle.std.proofs.lemmas.List.{reverse-append}
 use Rattle.std.proofs.lemmas.List.Elements.{All-append}
-use Rattle.cjc_card_semantics.specs.LowerScript.declared.value.Value.{Value}
+use Rattle.cjc_card_semantics.specs.Script.declared.value.Value.{Value}
 use Rattle.cjc_card_frame.specs.Frame.Frames.{IsLocal, IsWord}
 use Rattle.cjc_card_semantics.proofs.BytesGets.{behind_2, get_in_front}
 

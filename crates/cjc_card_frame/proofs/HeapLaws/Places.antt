@@ -1,7 +1,7 @@
 -- The slots of an object by their places.
 use Rattle.std.proofs.Common.{◌≡◌, ℕ, suc, refl, ap, ◌∙◌, sym, List, [], ◌∷◌, map, Bool, true, false}
 use Rattle.std.specs.Prelude.{Option, Some, None, option_map, slice_get, slice_set, if◌then◌else◌}
-use Rattle.cjc_card_semantics.specs.LowerScript.declared.value.Value.{Value}
+use Rattle.cjc_card_semantics.specs.Script.declared.value.Value.{Value}
 use Rattle.cjc_card_semantics.specs.Bytecode.Effects.{Slot, slot_of, slots_with}
 use Rattle.cjc_card_semantics.specs.Machine.Classes.{Field, same_field}
 use Rattle.cjc_card_frame.specs.declared.heap.slots.Slot.{Slot as SlotData}

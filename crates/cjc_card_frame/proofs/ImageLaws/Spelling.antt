@@ -5,8 +5,8 @@ use Rattle.std.proofs.Common.{drop, length-drop, Bool, true, false, ℤ}
 use Rattle.std.specs.Prelude.{Option, Some, None, option_and_then, is_some, if◌then◌else◌, nat_le}
 use Rattle.std.proofs.lemmas.Bool.Decides.{nat_tests}
 use Rattle.std.specs.Int.{w8, cast_signed}
-use Rattle.cjc_card_semantics.specs.LowerScript.declared.value.Value.TheVariants.{Num, Obj}
-use Rattle.cjc_card_semantics.specs.LowerScript.Sorts.{Booleans, Bytes, Shorts, Ints}
+use Rattle.cjc_card_semantics.specs.Script.declared.value.Value.TheVariants.{Num, Obj}
+use Rattle.cjc_card_semantics.specs.Script.Sorts.{Booleans, Bytes, Shorts, Ints}
 use Rattle.cjc_card_semantics.specs.Bytecode.Effects.{Byte, Short, Int}
 use Rattle.cjc_card_semantics.specs.Machine.Statics.{Image, number_in, elements, cell_in, objects_from}
 

@@ -3,8 +3,8 @@ use Rattle.std.specs.Prelude.{◌≡◌, ℕ, ◌+◌, List, [], ◌∷◌, ◌+
 use Rattle.std.specs.Prelude.{Bool, true, false, nat_le, ◌==◌, slice_get, ℤ, FitsSigned}
 use Rattle.std.specs.Int.{w16}
 use Rattle.std.specs.List.{All}
-use Rattle.cjc_card_semantics.specs.LowerScript.declared.value.Value.{Value}
-use Rattle.cjc_card_semantics.specs.LowerScript.declared.value.Value.TheVariants.{Num, Null, Obj}
+use Rattle.cjc_card_semantics.specs.Script.declared.value.Value.{Value}
+use Rattle.cjc_card_semantics.specs.Script.declared.value.Value.TheVariants.{Num, Null, Obj}
 use Rattle.cjc_card_semantics.specs.Bytecode.Calculations.{Fault, Result, Fine, Fails, Wrong, Calculation, Choice}
 use Rattle.cjc_card_semantics.specs.Bytecode.Calculations.{Takes, Neither, Test, if_so, numbered}
 use Rattle.cjc_card_semantics.specs.Bytecode.Calculations

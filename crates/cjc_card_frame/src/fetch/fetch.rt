@@ -5,7 +5,7 @@ ghost use Rattle.std.specs.Prelude.{◌≡◌, ◌≤◌, ◌+◌, ◌<◌, ◌^
 ghost use Rattle.cjc_card_semantics.specs.Bytecode.Machine.{Fetched};
 ghost use Rattle.cjc_card_semantics.specs.Machine.Loaded.{Loaded, Part};
 ghost use Rattle.cjc_card_semantics.specs.Machine.Methods.{Code as CodeByToken, fetch, fetched_as, methods_begin};
-ghost use Rattle.cjc_jvm_step.specs.CapRead.Decoder.Decoded.{IsAtFront, instruction_of};
+ghost use Rattle.cjc_card_semantics.specs.CapRead.Decoder.Decoded.{IsAtFront, instruction_of};
 ghost use Rattle.cjc_card_frame.specs.Codes.{bytes_at, insn_at};
 
 use cjc_card_semantics::capread::decoder::{Insn, decode};

@@ -6,9 +6,9 @@ ghost use Rattle.std.specs.Prelude.{MatchOption};
 ghost use Rattle.std.specs.Int.RustNames.{int_le};
 ghost use Rattle.cjc_card_semantics.specs.Bytecode.Effects.{arm_of};
 ghost use Rattle.cjc_card_semantics.specs.Machine.Operations.{paired, ranged};
-ghost use Rattle.cjc_jvm_step.specs.CapRead.Decoder.Decoded.{numbers};
-ghost use Rattle.cjc_jvm_step.specs.CapRead.declared.decoder.table.Matches.TheVariants.{Counted};
-ghost use Rattle.cjc_jvm_step.specs.CapRead.Decoder.Shapes.{entry_size, match_of, matches_of, operand_of};
+ghost use Rattle.cjc_card_semantics.specs.CapRead.Decoder.Decoded.{numbers};
+ghost use Rattle.cjc_card_semantics.specs.CapRead.declared.decoder.table.Matches.TheVariants.{Counted};
+ghost use Rattle.cjc_card_semantics.specs.CapRead.Decoder.Shapes.{entry_size, match_of, matches_of, operand_of};
 
 use crate::fetch::jumps::moved;
 use cjc_card_semantics::capread::decoder::{Kind, operand};

@@ -1,13 +1,13 @@
 //! The calculations that opcodes mean, with their operands. Called by whoever runs instructions.
 
 ghost use Rattle.std.specs.Prelude.{◌≡◌, ◌<◌, ◌^◌, ◌∷◌, [], ℕ, ℤ, List, Option, pos, IfNone, IfOk, IfSome};
-ghost use Rattle.cjc_card_semantics.specs.LowerScript.declared.value.Value.{Value};
+ghost use Rattle.cjc_card_semantics.specs.Script.declared.value.Value.{Value};
 ghost use Rattle.cjc_card_semantics.specs.Bytecode.Calculations.{Wrong, by_nibbles, dup_x, increased, int_increased};
 ghost use Rattle.cjc_card_semantics.specs.Bytecode.Calculations.{int_literal};
 ghost use Rattle.cjc_card_semantics.specs.Bytecode.Calculations.{literal, numbered, swap_x};
 ghost use Rattle.cjc_card_frame.specs.declared.opcodes.kinds.Calculation.TheVariants.{Literal};
 ghost use Rattle.cjc_card_frame.specs.Meanings.{calculation_of, load_of, store_of};
-ghost use Rattle.cjc_jvm_step.specs.CapRead.Decoder.Decoded.{values};
+ghost use Rattle.cjc_card_semantics.specs.CapRead.Decoder.Decoded.{values};
 ghost use Rattle.cjc_card_frame.specs.Frame.Frames.{AreOperands, Does, NoLocal};
 
 use crate::frame::cells::Cells;

@@ -3,7 +3,7 @@
 
 ghost use Rattle.std.specs.Prelude.{◌≡◌, ◌≢◌, ◌+ℤ◌, pos, FitsSigned};
 ghost use Rattle.std.specs.Int.{w16, w32};
-ghost use Rattle.cjc_jvm_step.specs.Range.Words.{low_byte, low_word, wide};
+ghost use Rattle.cjc_card_semantics.specs.Range.Words.{low_byte, low_word, wide};
 ghost use Rattle.cjc_card_semantics.specs.Bytecode.Numbers.{high_word, spelt_by, compared};
 ghost use Rattle.cjc_card_frame.specs.Meanings.{exact, exact_division};
 

@@ -3,7 +3,7 @@
 
 ghost use Rattle.std.specs.Prelude.{◌≡◌, ◌≤◌, ◌∷◌, [], ◌++◌, length, reverse, nat_le, true, IfOk, OnOk, if◌then◌else◌};
 ghost use Rattle.std.specs.List.{All};
-ghost use Rattle.cjc_card_semantics.specs.LowerScript.declared.value.Value.TheVariants.{Obj};
+ghost use Rattle.cjc_card_semantics.specs.Script.declared.value.Value.TheVariants.{Obj};
 ghost use Rattle.cjc_card_semantics.specs.Bytecode.Machine.{frame_for_call};
 ghost use Rattle.cjc_card_frame.specs.Frame.Frames.{IsWord};
 ghost use Rattle.cjc_card_frame.specs.Kinds.{start_of};

@@ -2,7 +2,7 @@
 //! number; the heap gives it one.
 
 ghost use Rattle.std.specs.Prelude.{◌≡◌, map, pos, replicate, IfOk};
-ghost use Rattle.cjc_card_semantics.specs.LowerScript.declared.value.Value.TheVariants.{Null};
+ghost use Rattle.cjc_card_semantics.specs.Script.declared.value.Value.TheVariants.{Null};
 ghost use Rattle.cjc_card_semantics.specs.Bytecode.Effects;
 ghost use Rattle.cjc_card_semantics.specs.Bytecode.Effects.{shape};
 ghost use Rattle.cjc_card_frame.specs.Objects.{class_of, element_of, field_of, object_by, shape_of, slot_by};

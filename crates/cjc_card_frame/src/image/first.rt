@@ -1,8 +1,8 @@
 //! Heap and images before the first entry (Java Card Virtual Machine Specification 2.2.2, section 6.10).
 
 ghost use Rattle.std.specs.Prelude.{◌≡◌, ◌+◌, ◌++◌, ◌-◌, ◌≤◌, ◌^◌, length, map, replicate, IfOk, OnOk};
-ghost use Rattle.cjc_card_semantics.specs.LowerScript.declared.value.Value.TheVariants.{Null};
-ghost use Rattle.cjc_card_semantics.specs.LowerScript.Sorts.{Bytes, Ints, Shorts};
+ghost use Rattle.cjc_card_semantics.specs.Script.declared.value.Value.TheVariants.{Null};
+ghost use Rattle.cjc_card_semantics.specs.Script.Sorts.{Bytes, Ints, Shorts};
 ghost use Rattle.cjc_card_semantics.specs.Machine.Statics.{element_of as element_by, elements, first_array};
 ghost use Rattle.cjc_card_semantics.specs.Machine.Statics.{first_image, objects_from};
 ghost use Rattle.cjc_card_frame.specs.Objects.{element_of};

@@ -3,7 +3,7 @@
 ghost use Rattle.std.specs.Prelude.{◌≡◌, ◌+◌, ◌≤◌, length, option_map, slice_set, FitsSigned, IfSome};
 ghost use Rattle.std.specs.Int.{w8, w16};
 ghost use Rattle.cjc_card_semantics.specs.Bytecode.Effects.{Byte, Int, Short};
-ghost use Rattle.cjc_card_semantics.specs.LowerScript.declared.value.Value.TheVariants.{Num};
+ghost use Rattle.cjc_card_semantics.specs.Script.declared.value.Value.TheVariants.{Num};
 ghost use Rattle.cjc_card_semantics.specs.Machine.Statics.{number_bytes, number_in, overwritten};
 
 /// The number of one byte at the front of bytes.

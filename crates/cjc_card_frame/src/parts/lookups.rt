@@ -2,7 +2,7 @@
 
 ghost use Rattle.std.specs.Prelude.{◌≡◌, ◌≤◌, ◌+◌, ℕ, List, map, option_map, option_and_then, slice_get, IfOk, IfSome};
 ghost use Rattle.std.specs.Option.{option_copied};
-ghost use Rattle.cjc_jvm_step.specs.CapRead.Decoder.Decoded.{IsAtFront, instruction_of};
+ghost use Rattle.cjc_card_semantics.specs.CapRead.Decoder.Decoded.{IsAtFront, instruction_of};
 ghost use Rattle.cjc_card_frame.specs.Meanings.{mode_of};
 ghost use Rattle.cjc_card_semantics.specs.Machine.Loaded.{Loaded};
 ghost use Rattle.cjc_card_semantics.specs.Machine.Classes.{is_of, fresh, name_of, class_named, fault_class};

@@ -2,7 +2,7 @@
 //! method or class that this names. Nothing here runs.
 
 ghost use Rattle.std.specs.Prelude.{◌≡◌, ℕ, Bool, option_map};
-ghost use Rattle.cjc_jvm_step.specs.CapRead.declared.tree.PoolEntry.{PoolEntry};
+ghost use Rattle.cjc_card_semantics.specs.CapRead.declared.tree.PoolEntry.{PoolEntry};
 ghost use Rattle.cjc_card_semantics.specs.Bytecode.Effects.{Letter, Get, Put, GetStatic, PutStatic, Call, New};
 ghost use Rattle.cjc_card_semantics.specs.Bytecode.Effects.{NewReferences};
 ghost use Rattle.cjc_card_semantics.specs.Bytecode.Meanings.{Gets, Puts, GetsStatic, PutsStatic, Calls, Makes};

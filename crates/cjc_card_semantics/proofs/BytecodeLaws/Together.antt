@@ -3,7 +3,7 @@ use Rattle.std.proofs.Common.{◌≡◌, ℕ, zero, suc, ◌+◌, refl, sym, ap,
 use Rattle.std.proofs.Common.{length, take, drop, reverse, replicate, ℤ, pos, negsuc}
 use Rattle.std.specs.Prelude.{Option, Some, None, map, nat_le, nat_lt, slice_get, slice_set, if◌then◌else◌, ◌&&◌}
 use Rattle.std.specs.Prelude.{option_map, option_and_then}
-use Rattle.cjc_export.specs.LowerBytes.declared.fault.MemberId.{MemberId}
+use Rattle.cjc_export.specs.Bytes.declared.fault.MemberId.{MemberId}
 use Rattle.cjc_script.specs.declared.value.Value.{Value}
 use Rattle.cjc_script.specs.declared.value.Value.TheVariants.{Num, Null, Obj}
 use Rattle.cjc_script.specs.declared.script.Act.{Act}

@@ -1,6 +1,6 @@
 -- Two machines whose look-ups are the same under other names and places.
 use Rattle.std.specs.Prelude.{◌≡◌, ◌≢◌, ℕ, List, [], ◌∷◌, map, Option, Some, None}
-use Rattle.cjc_export.specs.LowerBytes.declared.fault.MemberId.{MemberId}
+use Rattle.cjc_export.specs.Bytes.declared.fault.MemberId.{MemberId}
 use Rattle.cjc_script.specs.declared.report.Outcome.TheVariants.{Stuck}
 use Rattle.cjc_script.specs.declared.report.Report.{Report}
 use Rattle.cjc_script.specs.Sorts.{Shape}

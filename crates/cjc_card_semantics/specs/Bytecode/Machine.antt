@@ -4,7 +4,7 @@ use Rattle.std.specs.Prelude.{ℕ, zero, suc, ◌+◌, List, [], ◌∷◌, ◌+
 use Rattle.std.specs.Prelude.{Option, Some, None, option_and_then, option_map, Bool, true, false, nat_le, nat_lt, ◌&&◌}
 use Rattle.std.specs.Prelude.{if◌then◌else◌, slice_get, slice_set, ℤ, pos, negsuc, codes}
 use Rattle.std.specs.Str.{bytes_eq}
-use Rattle.cjc_export.specs.LowerBytes.declared.fault.MemberId.{MemberId}
+use Rattle.cjc_export.specs.Bytes.declared.fault.MemberId.{MemberId}
 use Rattle.cjc_script.specs.declared.value.Value.{Value}
 use Rattle.cjc_script.specs.declared.value.Value.TheVariants.{Num, Null, Obj}
 use Rattle.cjc_script.specs.declared.script.Act.{Act}

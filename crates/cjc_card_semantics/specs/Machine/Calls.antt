@@ -2,8 +2,8 @@
 use Rattle.std.specs.Prelude.{ℕ, zero, suc, ◌+◌, ◌-◌, List, [], ◌∷◌, Option, Some, None, option_and_then, option_map}
 use Rattle.std.specs.Prelude.{Bool, true, false, nat_lt, ◌&&◌, ◌||◌, if◌then◌else◌, slice_get, codes}
 use Rattle.std.specs.Str.{bytes_eq}
-use Rattle.cjc_export.specs.LowerBytes.AccessFlags.{has, is_static, is_private}
-use Rattle.cjc_export.specs.LowerBytes.declared.fault.MemberId.{MemberId}
+use Rattle.cjc_export.specs.Bytes.AccessFlags.{has, is_static, is_private}
+use Rattle.cjc_export.specs.Bytes.declared.fault.MemberId.{MemberId}
 use Rattle.cjc_capread.specs.declared.tree.ClassDescriptor.{ClassDescriptor}
 use Rattle.cjc_capread.specs.declared.tree.MethodDescriptor.{MethodDescriptor}
 use Rattle.cjc_capread.specs.ClassRefs.{is_inside}

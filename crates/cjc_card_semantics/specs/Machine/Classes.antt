@@ -5,7 +5,7 @@ use Rattle.std.specs.Prelude.{option_and_then, option_map, option_to_list, unwra
 use Rattle.std.specs.Prelude.{nat_lt, nat_le, ◌==◌, ◌&&◌, if◌then◌else◌, slice_get, pos, codes}
 use Rattle.std.specs.List.{list_any}
 use Rattle.std.specs.Str.{bytes_eq}
-use Rattle.cjc_export.specs.LowerBytes.AccessFlags as flags
+use Rattle.cjc_export.specs.Bytes.AccessFlags as flags
 use Rattle.cjc_capread.specs.declared.tree.ClassRef.{ClassRef}
 use Rattle.cjc_capread.specs.declared.tree.ClassRef.TheVariants.{Inside, Outside}
 use Rattle.cjc_capread.specs.declared.tree.ClassEntry.{ClassEntry}

@@ -1,7 +1,7 @@
 -- What the machine by token is given: the components of each package of a group, the export files of the packages
 -- outside it, and names.
 use Rattle.std.specs.Prelude.{ℕ, List}
-use Rattle.cjc_export.specs.LowerBytes.declared.fault.MemberId.{MemberId}
+use Rattle.cjc_export.specs.Bytes.declared.fault.MemberId.{MemberId}
 use Rattle.cjc_capread.specs.declared.tree.ClassDescriptor.{ClassDescriptor}
 use Rattle.cjc_capread.specs.declared.tree.ClassInfo.{ClassInfo}
 use Rattle.cjc_capread.specs.declared.tree.ExportedClass.{ExportedClass}

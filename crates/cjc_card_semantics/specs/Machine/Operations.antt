@@ -2,7 +2,7 @@
 -- Specification 2.2.2, section 6.7 and chapter 7).
 use Rattle.std.specs.Prelude.{ℕ, suc, ◌+◌, ◌-◌, List, [], ◌∷◌, Option, Some, None, option_and_then, option_map, Bool}
 use Rattle.std.specs.Prelude.{true, false, nat_lt, ◌==◌, ◌&&◌, if◌then◌else◌, slice_get, ℤ, pos, negsuc, ◌+ℤ◌}
-use Rattle.cjc_export.specs.LowerBytes.declared.fault.MemberId.{MemberId}
+use Rattle.cjc_export.specs.Bytes.declared.fault.MemberId.{MemberId}
 use Rattle.cjc_capread.specs.declared.tree.StaticRef.{StaticRef}
 use Rattle.cjc_capread.specs.declared.tree.StaticRef.TheVariants.{Inside, Outside}
 use Rattle.cjc_capread.specs.declared.tree.PoolEntry.{PoolEntry}

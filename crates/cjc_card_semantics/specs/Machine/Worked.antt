@@ -1,6 +1,6 @@
 -- Packages made by hand, and scripts for them.
 use Rattle.std.specs.Prelude.{ℕ, List, [], ◌∷◌, ◌++◌, Option, Bool, true, false, codes}
-use Rattle.cjc_export.specs.LowerBytes.declared.fault.MemberId.{MemberId}
+use Rattle.cjc_export.specs.Bytes.declared.fault.MemberId.{MemberId}
 use Rattle.cjc_capread.specs.declared.tree.ClassRef.{ClassRef}
 use Rattle.cjc_capread.specs.declared.tree.ClassRef.TheVariants.{Inside, Outside}
 use Rattle.cjc_capread.specs.declared.tree.StaticRef.TheVariants as refs

@@ -1,9 +1,9 @@
 -- What is put into a field or an element of an array that is there.
 use Rattle.std.proofs.Common.{◌≡◌, ℕ, ℤ, refl, sym, ap, ◌∙◌, List, Bool}
 use Rattle.std.specs.Prelude.{Option, Some, None, if◌then◌else◌, slice_get, slice_set}
-use Rattle.cjc_card_frame.specs.Script.declared.value.Value.{Value}
-use Rattle.cjc_card_frame.specs.Script.declared.value.Value.TheVariants.{Num, Null, Obj}
-use Rattle.cjc_card_frame.specs.Script.Sorts.{Element}
+use Rattle.cjc_card_semantics.specs.Script.declared.value.Value.{Value}
+use Rattle.cjc_card_semantics.specs.Script.declared.value.Value.TheVariants.{Num, Null, Obj}
+use Rattle.cjc_card_semantics.specs.Script.Sorts.{Element}
 use Rattle.cjc_card_semantics.specs.Bytecode.Effects.{Slot, HeapObject, Numbers, References, Object, Stick, thing_of}
 use Rattle.cjc_card_semantics.specs.Bytecode.Effects.{object_in, put_slot, same_kind, slot_of, slots_with, with_some}
 use Rattle.cjc_card_semantics.specs.Machine.Loaded.{Loaded}

@@ -5,9 +5,9 @@ use Rattle.std.specs.Prelude.{Option, Some, None, slice_get}
 use Rattle.std.specs.Int.{w16, int_wrap, cast_signed}
 use Rattle.std.proofs.lemmas.Int.{ints}
 use Rattle.std.proofs.lemmas.Bool.Decides.{nat_tests}
-use Rattle.cjc_card_frame.specs.Range.Words.{low_word}
-use Rattle.cjc_card_frame.specs.Script.declared.value.Value.{Value}
-use Rattle.cjc_card_frame.specs.Script.declared.value.Value.TheVariants.{Num, Null, Obj}
+use Rattle.cjc_card_semantics.specs.Range.Words.{low_word}
+use Rattle.cjc_card_semantics.specs.Script.declared.value.Value.{Value}
+use Rattle.cjc_card_semantics.specs.Script.declared.value.Value.TheVariants.{Num, Null, Obj}
 use Rattle.cjc_card_semantics.specs.Bytecode.Numbers.{is_word}
 use Rattle.cjc_card_semantics.specs.Bytecode.Calculations.{is_reference, one_number, one_value}
 use Rattle.cjc_card_semantics.specs.Bytecode.Effects.{Reference, with_some, words_of}

@@ -1,10 +1,10 @@
 -- Where switches lead.
 use Rattle.std.proofs.Common.{◌≡◌, ℕ, List, refl, sym, ap, subst, ◌∙◌, Bool, true, false}
 use Rattle.std.specs.Prelude.{◌⊎◌, IfOk, Result, Ok, Err}
-use Rattle.cjc_card_frame.specs.Script.declared.value.Value.{Value}
+use Rattle.cjc_card_semantics.specs.Script.declared.value.Value.{Value}
 use Rattle.cjc_card_semantics.specs.Bytecode.Effects.{Arm, Pick, arm_of}
 use Rattle.cjc_card_semantics.specs.Bytecode.Effects
-use Rattle.cjc_card_frame.specs.CapRead.Decode.{Instruction}
+use Rattle.cjc_card_semantics.specs.CapRead.Decode.{Instruction}
 use Rattle.cjc_card_frame.specs.declared.opcodes.kinds.Condition.{Condition}
 use Rattle.cjc_card_frame.specs.declared.opcodes.kinds.Meaning.{Meaning as MeaningData}
 use Rattle.cjc_card_frame.specs.declared.opcodes.kinds.Meaning.TheVariants as meanings

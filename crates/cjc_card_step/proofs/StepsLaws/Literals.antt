@@ -5,10 +5,10 @@ use Rattle.std.specs.Prelude.{◌⊎◌, Option, Some, None, FitsSigned, nat_lt,
 use Rattle.std.specs.Int.{w16}
 use Rattle.std.proofs.lemmas.Int.{ints}
 use Rattle.std.proofs.lemmas.Bool.Decides.{nat_tests}
-use Rattle.cjc_card_frame.specs.CapRead.Opcodes.{Form, Fields, Signed1, Signed2, form, forms}
-use Rattle.cjc_card_frame.specs.CapRead.Decode.{Instruction, Front, signed, operands_of, before_table, in_table}
-use Rattle.cjc_card_frame.specs.CapRead.Decode.{is_whole}
-use Rattle.cjc_card_frame.specs.CapRead.Decode.{with_table, with_operands, decode, decode_as}
+use Rattle.cjc_card_semantics.specs.CapRead.Opcodes.{Form, Fields, Signed1, Signed2, form, forms}
+use Rattle.cjc_card_semantics.specs.CapRead.Decode.{Instruction, Front, signed, operands_of, before_table, in_table}
+use Rattle.cjc_card_semantics.specs.CapRead.Decode.{is_whole}
+use Rattle.cjc_card_semantics.specs.CapRead.Decode.{with_table, with_operands, decode, decode_as}
 use Rattle.cjc_card_frame.specs.declared.opcodes.kinds.Calculation.{Calculation}
 use Rattle.cjc_card_frame.specs.declared.opcodes.kinds.Calculation.TheVariants.{Literal}
 use Rattle.cjc_card_frame.specs.declared.opcodes.kinds.Meaning.TheVariants.{Plain}

@@ -1,17 +1,17 @@
 -- What the entries of a switch's table are, by its meaning.
 use Rattle.std.proofs.Common.{◌≡◌, ℕ, ◌<◌, refl, sym, ap, ◌∙◌, List, Bool, true, false}
 use Rattle.std.specs.Prelude.{Option, Some, None}
-use Rattle.cjc_card_frame.specs.CapRead.Opcodes.{Operand, Signed2, Signed4, Form, Fields, Table, Lookup, form}
+use Rattle.cjc_card_semantics.specs.CapRead.Opcodes.{Operand, Signed2, Signed4, Form, Fields, Table, Lookup, form}
 use Rattle.cjc_card_semantics.specs.Bytecode.Meanings.{Meaning, Ranged, Paired, meaning}
 use Rattle.cjc_card_semantics.specs.Bytecode.Worked.{is_told, is_told_as, takes, are_matches}
 use Rattle.cjc_card_semantics.proofs.BytecodeLaws.Told.{told}
-use Rattle.cjc_card_frame.specs.CapRead.declared.decoder.insn.Insn.{Insn}
-use Rattle.cjc_card_frame.specs.CapRead.declared.decoder.shape.Shape.{Shape}
-use Rattle.cjc_card_frame.specs.CapRead.declared.decoder.shape.Shape.TheVariants as shapes
-use Rattle.cjc_card_frame.specs.CapRead.declared.decoder.table.Matches.{Matches}
-use Rattle.cjc_card_frame.specs.CapRead.declared.decoder.table.Matches.TheVariants.{Counted, Short, Int}
-use Rattle.cjc_card_frame.specs.CapRead.Decoder.Decoded.{IsAtFront}
-use Rattle.cjc_card_frame.specs.CapRead.Decoder.Shapes.{form_of, matches_in, matches_of}
+use Rattle.cjc_card_semantics.specs.CapRead.declared.decoder.insn.Insn.{Insn}
+use Rattle.cjc_card_semantics.specs.CapRead.declared.decoder.shape.Shape.{Shape}
+use Rattle.cjc_card_semantics.specs.CapRead.declared.decoder.shape.Shape.TheVariants as shapes
+use Rattle.cjc_card_semantics.specs.CapRead.declared.decoder.table.Matches.{Matches}
+use Rattle.cjc_card_semantics.specs.CapRead.declared.decoder.table.Matches.TheVariants.{Counted, Short, Int}
+use Rattle.cjc_card_semantics.specs.CapRead.Decoder.Decoded.{IsAtFront}
+use Rattle.cjc_card_semantics.specs.CapRead.Decoder.Shapes.{form_of, matches_in, matches_of}
 use Rattle.cjc_card_semantics.proofs.BytesBools.{both_front}
 
 -- the form of a switch over numbers

@@ -1,8 +1,8 @@
 -- What is done with entries of the constant pool, and rows of operations that are others.
 use Rattle.std.proofs.Common.{◌≡◌, ℕ, List, [], ◌∷◌, refl, sym, ap, subst, ◌∙◌, ℤ, pos, negsuc}
 use Rattle.std.specs.Prelude.{Option, Some, None, option_and_then, option_map}
-use Rattle.cjc_card_frame.specs.CapRead.declared.tree.PoolEntry.{PoolEntry}
-use Rattle.cjc_card_frame.specs.Script.Sorts.{Shape}
+use Rattle.cjc_card_semantics.specs.CapRead.declared.tree.PoolEntry.{PoolEntry}
+use Rattle.cjc_card_semantics.specs.Script.Sorts.{Shape}
 use Rattle.cjc_card_semantics.specs.Bytecode.Effects.{Ask, Call, Cast, NewNumbers, Undone}
 use Rattle.cjc_card_semantics.specs.Bytecode.Meanings.{Asks, CallsInterface, Casts, MakesNumbers, Use}
 use Rattle.cjc_card_semantics.specs.Machine.Loaded.{Loaded}

@@ -1,6 +1,6 @@
 -- What an instruction asks of the machine, beside what it has changed itself, against the definition's effect.
 use Rattle.std.specs.Prelude.{◌≡◌, ℕ, List, [], ◌∷◌, Option, Result, Ok, Err}
-use Rattle.cjc_card_frame.specs.Script.declared.value.Value.{Value}
+use Rattle.cjc_card_semantics.specs.Script.declared.value.Value.{Value}
 use Rattle.cjc_card_semantics.specs.Bytecode.Effects.{Effect, Memory, HeapObject}
 use Rattle.cjc_card_semantics.specs.Bytecode.Effects
 use Rattle.cjc_card_semantics.specs.Machine.Loaded.{Loaded}
@@ -15,7 +15,7 @@ use Rattle.cjc_card_step.specs.declared.effects.deed.Returned.{Returned}
 use Rattle.cjc_card_step.specs.declared.effects.deed.Returned.TheVariants as results
 use Rattle.cjc_card_step.specs.declared.effects.deed.Halt.{Halt}
 use Rattle.cjc_card_step.specs.declared.effects.deed.Halt.TheVariants as halts
-use Rattle.cjc_card_frame.specs.Script.declared.value.Value.TheVariants.{Num, Null, Obj}
+use Rattle.cjc_card_semantics.specs.Script.declared.value.Value.TheVariants.{Num, Null, Obj}
 
 -- an effect, the heap and the memory of the machine by token
 abbrev pub EffectByToken : Type 0

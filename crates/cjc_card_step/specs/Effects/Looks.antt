@@ -1,7 +1,7 @@
 -- What instructions find in the heap, by the definition's steps.
 use Rattle.std.specs.Prelude.{ℕ, ℤ, List, [], Option, Some, None, slice_get}
-use Rattle.cjc_card_frame.specs.Script.declared.value.Value.{Value}
-use Rattle.cjc_card_frame.specs.Script.Sorts.{Element}
+use Rattle.cjc_card_semantics.specs.Script.declared.value.Value.{Value}
+use Rattle.cjc_card_semantics.specs.Script.Sorts.{Element}
 use Rattle.cjc_card_semantics.specs.Bytecode.Effects.{Letter, Slot, HeapObject, Numbers, References, Object, Raise}
 use Rattle.cjc_card_semantics.specs.Bytecode.Effects.{Stick, thing_of, references_in, numbers_in, object_in, item_at}
 use Rattle.cjc_card_semantics.specs.Bytecode.Effects.{slot_of, with_some}

@@ -4,7 +4,7 @@ ghost use Rattle.std.specs.Prelude.{◌≡◌, ℕ, ℤ, pos, length, FitsSigned
 ghost use Rattle.std.specs.Int.{w16};
 ghost use Rattle.cjc_card_semantics.specs.Bytecode.Effects.{Length, Load, Store, item_of, kept, length_in, load_number};
 ghost use Rattle.cjc_card_semantics.specs.Bytecode.Effects.{store_number, thing_of, effect_of_access};
-ghost use Rattle.cjc_card_frame.specs.Range.Words.{low_word};
+ghost use Rattle.cjc_card_semantics.specs.Range.Words.{low_word};
 ghost use Rattle.cjc_card_semantics.specs.Machine.Loaded.{Loaded};
 ghost use Rattle.cjc_card_semantics.specs.Machine.ByToken.{classes};
 ghost use Rattle.cjc_card_frame.specs.Meanings.{letter_of};

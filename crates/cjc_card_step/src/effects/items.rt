@@ -1,8 +1,8 @@
 //! What instructions find in the heap: elements of arrays, and the fields of objects.
 
 ghost use Rattle.std.specs.Prelude.{◌≡◌, ℕ, ℤ, List, Some, slice_get, IfOk};
-ghost use Rattle.cjc_card_frame.specs.Script.declared.value.Value.{Value};
-ghost use Rattle.cjc_card_frame.specs.Script.Sorts;
+ghost use Rattle.cjc_card_semantics.specs.Script.declared.value.Value.{Value};
+ghost use Rattle.cjc_card_semantics.specs.Script.Sorts;
 ghost use Rattle.cjc_card_semantics.specs.Bytecode.Calculations.{IndexOutside};
 ghost use Rattle.cjc_card_semantics.specs.Bytecode.Effects.{Numbers, Object, Raise, References, Slot, is_element};
 ghost use Rattle.cjc_card_semantics.specs.Bytecode.Effects.{item_at, with_some};

@@ -1,8 +1,8 @@
 //! What instructions take off the stack, and what they put onto it, by the letters of their names.
 
 ghost use Rattle.std.specs.Prelude.{◌≡◌, ◌+◌, ◌≤◌, ◌∷◌, [], ℤ, List, length, drop, true, IfOk, IfSome};
-ghost use Rattle.cjc_card_frame.specs.Script.declared.value.Value.{Value};
-ghost use Rattle.cjc_card_frame.specs.Script.declared.value.Value.TheVariants.{Num};
+ghost use Rattle.cjc_card_semantics.specs.Script.declared.value.Value.{Value};
+ghost use Rattle.cjc_card_semantics.specs.Script.declared.value.Value.TheVariants.{Num};
 ghost use Rattle.cjc_card_semantics.specs.Bytecode.Calculations.{int_words, is_reference, one_number, one_value};
 ghost use Rattle.cjc_card_semantics.specs.Bytecode.Effects.{Stick, one_reference, onward, operand, receiver, with_some};
 ghost use Rattle.cjc_card_semantics.specs.Bytecode.Effects.{word_of, words_of};

@@ -4,7 +4,7 @@
 ghost use Rattle.std.specs.Prelude.{IfOk};
 ghost use Rattle.cjc_card_semantics.specs.Bytecode.Effects.{Do};
 ghost use Rattle.cjc_card_frame.specs.Meanings.{calculation_of};
-ghost use Rattle.cjc_card_frame.specs.CapRead.Decoder.Decoded.{values};
+ghost use Rattle.cjc_card_semantics.specs.CapRead.Decoder.Decoded.{values};
 ghost use Rattle.cjc_card_semantics.specs.Machine.Loaded.{Loaded};
 ghost use Rattle.cjc_card_frame.specs.Frame.Frames.{AreOperands};
 ghost use Rattle.cjc_card_step.specs.Effects.Deeds.{FollowsAlone};

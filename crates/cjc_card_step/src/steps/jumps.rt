@@ -2,12 +2,12 @@
 //! the run goes on at. Called by `instruction`.
 
 ghost use Rattle.std.specs.Prelude.{◌≡◌, ◌≤◌, ℕ, ℤ, List, length, drop, IfOk, IfSome};
-ghost use Rattle.cjc_card_frame.specs.Script.declared.value.Value.{Value};
+ghost use Rattle.cjc_card_semantics.specs.Script.declared.value.Value.{Value};
 ghost use Rattle.cjc_card_semantics.specs.Bytecode.Effects.{Branch, Pick, Stick, with_some};
 ghost use Rattle.cjc_card_frame.specs.Meanings.{test_of};
-ghost use Rattle.cjc_card_frame.specs.CapRead.Decoder.Decoded.{numbers};
-ghost use Rattle.cjc_card_frame.specs.CapRead.Decoder.Shapes.{matches_of};
-ghost use Rattle.cjc_card_frame.specs.CapRead.declared.decoder.table.Matches.TheVariants.{Counted};
+ghost use Rattle.cjc_card_semantics.specs.CapRead.Decoder.Decoded.{numbers};
+ghost use Rattle.cjc_card_semantics.specs.CapRead.Decoder.Shapes.{matches_of};
+ghost use Rattle.cjc_card_semantics.specs.CapRead.declared.decoder.table.Matches.TheVariants.{Counted};
 ghost use Rattle.cjc_card_semantics.specs.Machine.Loaded.{Loaded};
 ghost use Rattle.cjc_card_semantics.specs.Machine.Operations.{moved, paired, ranged};
 ghost use Rattle.cjc_card_step.specs.Effects.Deeds.{EffectByToken, MemoryByToken};

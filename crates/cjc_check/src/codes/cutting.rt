@@ -5,8 +5,8 @@ ghost use Rattle.std.specs.Prelude.{◌≡◌, ℕ, ◌+◌, ◌-◌, ◌*◌, �
 ghost use Rattle.cjc_capread.specs.declared.tree.MethodDescriptor.{MethodDescriptor as Described};
 ghost use Rattle.cjc_check.specs.Codes.Bodies.{IsCut, cut_of};
 ghost use Rattle.cjc_check.specs.Codes.Working.Steps.{EndsAt, IsStep, followed};
-ghost use Rattle.cjc_check_tables.specs.LowerCheckIndex.Lookup.Indexed.{IsIndexed};
-ghost use Rattle.cjc_check_tables.specs.LowerCheckIndex.Lookup.Parts.{complete_of};
+ghost use Rattle.cjc_check_tables.specs.CheckIndex.Lookup.Indexed.{IsIndexed};
+ghost use Rattle.cjc_check_tables.specs.CheckIndex.Lookup.Parts.{complete_of};
 ghost use Rattle.cjc_check_rules.specs.Codes.{Code, codes_from, cut, instructions, where_cut_ends, with_code};
 ghost use Rattle.cjc_capread.specs.Decoder.Decoded.{header_of};
 ghost use Rattle.cjc_check_rules.specs.Complete.{AreSmall};

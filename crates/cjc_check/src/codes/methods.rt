@@ -3,7 +3,7 @@
 
 ghost use Rattle.std.specs.Prelude.{◌≡◌, ◌++◌, IfOk, OnOk};
 ghost use Rattle.cjc_check.specs.Codes.Working.Steps.{methods_of, methods_of_all};
-ghost use Rattle.cjc_check_tables.specs.LowerCheckIndex.Lookup.Indexed.{IsIndexed};
+ghost use Rattle.cjc_check_tables.specs.CheckIndex.Lookup.Indexed.{IsIndexed};
 
 use cjc_capread::bytes::{NoMemory, Row};
 use cjc_capread::{ClassDescriptor, MethodDescriptor};

@@ -8,10 +8,10 @@ use Rattle.std.proofs.lemmas.List.FromFn.{fill_by_all, get_or-map-range_with_len
 use Rattle.std.proofs.lemmas.Grind.{get_or-set_at}
 use Rattle.std.proofs.lemmas.Bool.Decides.{nat_tests}
 use Rattle.std.proofs.lemmas.Option.{slice_get_past, slice_get_within, slice_get-get_or}
-use Rattle.cjc_check_rules.specs.Bytes.AccessFlags.{is_static}
-use Rattle.cjc_check_rules.specs.LowerExportFile.declared.tree.ExportClass.{ExportClass}
-use Rattle.cjc_check_rules.specs.LowerExportFile.declared.tree.ExportTree.{ExportTree}
-use Rattle.cjc_check_rules.specs.LowerExportFile.Supers.{classes_of, has_virtual, inherits_virtual}
+use Rattle.cjc_check_rules.specs.LowerBytes.AccessFlags.{is_static}
+use Rattle.cjc_check_rules.specs.ExportFile.declared.tree.ExportClass.{ExportClass}
+use Rattle.cjc_check_rules.specs.ExportFile.declared.tree.ExportTree.{ExportTree}
+use Rattle.cjc_check_rules.specs.ExportFile.Supers.{classes_of, has_virtual, inherits_virtual}
 use Rattle.cjc_check_index.specs.Lookup.Indexed.{place_from, places_of}
 use Rattle.cjc_check_index.proofs.LookupLaws.Indexed.{file_at, found_at, place_is}
 use Rattle.cjc_check_rules.specs.Classes.{class_with, imported, is_exported_class}

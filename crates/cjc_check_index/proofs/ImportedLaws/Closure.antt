@@ -6,8 +6,8 @@ use Rattle.std.specs.List.{list_any}
 use Rattle.std.proofs.lemmas.Bool.{cases_lt}
 use Rattle.std.proofs.lemmas.Bool.Decides.{nat_tests}
 use Rattle.std.proofs.lemmas.List.{get_or-map, get_or_past, length-map}
-use Rattle.cjc_check_rules.specs.LowerExportFile.declared.tree.ExportClass.{ExportClass}
-use Rattle.cjc_check_rules.specs.LowerExportFile.Supers.{is_one_of, IsAtOrAbove, at, above, upwards}
+use Rattle.cjc_check_rules.specs.ExportFile.declared.tree.ExportClass.{ExportClass}
+use Rattle.cjc_check_rules.specs.ExportFile.Supers.{is_one_of, IsAtOrAbove, at, above, upwards}
 use Rattle.cjc_check_index.specs.Imported.Tokens.{all_tokens, each_class}
 use Rattle.cjc_check_index.specs.Imported.Working.Graph.{AreBelow, above_of, is_in, places}
 use Rattle.cjc_check_index.specs.Imported.Working.Names.{place_from}

@@ -2,9 +2,9 @@
 use Rattle.std.proofs.Common.{◌≡◌, ℕ, zero, suc, ◌+◌, ◌-◌, ◌<◌, ◌≤◌, List, [], ◌∷◌, ◌++◌, length, get_or, drop, refl}
 use Rattle.std.proofs.Common.{sym, ap, ◌∙◌, arith, append_assoc, append-nil, length-append, slice_get}
 use Rattle.std.proofs.lemmas.List.{drop_more, drop_all}
-use Rattle.cjc_check_rules.specs.LowerExportFile.declared.tree.ExportClass.{ExportClass}
-use Rattle.cjc_check_rules.specs.LowerExportFile.declared.tree.ExportTree.{ExportTree}
-use Rattle.cjc_check_rules.specs.LowerExportFile.Supers.{classes_of}
+use Rattle.cjc_check_rules.specs.ExportFile.declared.tree.ExportClass.{ExportClass}
+use Rattle.cjc_check_rules.specs.ExportFile.declared.tree.ExportTree.{ExportTree}
+use Rattle.cjc_check_rules.specs.ExportFile.Supers.{classes_of}
 use Rattle.cjc_check_index.specs.Imported.Tokens.{file_starts}
 
 -- ---- loops

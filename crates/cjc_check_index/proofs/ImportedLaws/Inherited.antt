@@ -5,8 +5,8 @@ use Rattle.std.specs.Prelude.{◌||◌}
 use Rattle.std.specs.List.{AllByRecursion, list_any}
 use Rattle.std.specs.Str.{bytes_eq}
 use Rattle.std.proofs.lemmas.List.{get_or-map}
-use Rattle.cjc_check_rules.specs.LowerExportFile.declared.tree.ExportClass.{ExportClass}
-use Rattle.cjc_check_rules.specs.LowerExportFile.Supers.{class_named, is_one_of, IsAtOrAbove, at, above, upwards}
+use Rattle.cjc_check_rules.specs.ExportFile.declared.tree.ExportClass.{ExportClass}
+use Rattle.cjc_check_rules.specs.ExportFile.Supers.{class_named, is_one_of, IsAtOrAbove, at, above, upwards}
 use Rattle.cjc_check_rules.proofs.ExportFileUpwards.{all_found, each_own, found_is, one_here, one_more}
 use Rattle.cjc_check_index.specs.Imported.Working.Graph.{places}
 use Rattle.cjc_check_index.specs.Imported.Working.Rows.{has_or_inherits, is_any_marked}

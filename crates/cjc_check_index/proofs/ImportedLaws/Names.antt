@@ -6,8 +6,8 @@ use Rattle.std.specs.List.{list_any}
 use Rattle.std.specs.Str.{bytes_eq}
 use Rattle.std.proofs.lemmas.List.{drop_more, drop_all}
 use Rattle.std.proofs.lemmas.List.Folds.{list_any-append}
-use Rattle.cjc_check_rules.specs.LowerExportFile.declared.tree.ExportClass.{ExportClass}
-use Rattle.cjc_check_rules.specs.LowerExportFile.Supers.{class_named, is_one_of}
+use Rattle.cjc_check_rules.specs.ExportFile.declared.tree.ExportClass.{ExportClass}
+use Rattle.cjc_check_rules.specs.ExportFile.Supers.{class_named, is_one_of}
 use Rattle.cjc_check_rules.proofs.ExportFileUpwards.{one_here, one_more}
 use Rattle.cjc_check_index.specs.Imported.Working.Graph.{one_place, places}
 use Rattle.cjc_check_index.specs.Imported.Working.Names.{or_else, place_from}

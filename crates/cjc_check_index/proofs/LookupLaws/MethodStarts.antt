@@ -5,10 +5,10 @@ use Rattle.std.specs.Prelude.{◌&&◌, ◌||◌, flat_map, filter}
 use Rattle.std.specs.List.{list_any}
 use Rattle.std.proofs.lemmas.List.{drop_more, drop_all}
 use Rattle.std.proofs.lemmas.List.Folds.{list_any-append}
-use Rattle.cjc_check_rules.specs.Bytes.AccessFlags.{is_static}
-use Rattle.cjc_check_rules.specs.LowerCapRead.declared.tree.ClassInfo.{ClassInfo}
-use Rattle.cjc_check_rules.specs.LowerCapRead.declared.tree.ClassDescriptor.{ClassDescriptor}
-use Rattle.cjc_check_rules.specs.LowerCapRead.declared.tree.MethodDescriptor.{MethodDescriptor}
+use Rattle.cjc_check_rules.specs.LowerBytes.AccessFlags.{is_static}
+use Rattle.cjc_check_rules.specs.CapRead.declared.tree.ClassInfo.{ClassInfo}
+use Rattle.cjc_check_rules.specs.CapRead.declared.tree.ClassDescriptor.{ClassDescriptor}
+use Rattle.cjc_check_rules.specs.CapRead.declared.tree.MethodDescriptor.{MethodDescriptor}
 use Rattle.cjc_check_rules.specs.Classes.{is_own_class}
 use Rattle.cjc_check_index.specs.Lookup.MethodStarts.{is_asked, offset_of, offsets_of, class_offsets, all_offsets}
 use Rattle.cjc_check_index.proofs.ImportedLaws.Loops.{or_false}

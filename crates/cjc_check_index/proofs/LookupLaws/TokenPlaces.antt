@@ -6,8 +6,8 @@ use Rattle.std.proofs.lemmas.List.{drop_more, drop_all, get_or-set_other, map-ap
 use Rattle.std.proofs.lemmas.List.FromFn.{fill_by_all}
 use Rattle.std.proofs.lemmas.Grind.{get_or-set_at}
 use Rattle.std.proofs.lemmas.Bool.Decides.{nat_tests}
-use Rattle.cjc_check_rules.specs.LowerExportFile.declared.tree.ExportClass.{ExportClass}
-use Rattle.cjc_check_rules.specs.LowerExportFile.declared.tree.ExportTree.{ExportTree}
+use Rattle.cjc_check_rules.specs.ExportFile.declared.tree.ExportClass.{ExportClass}
+use Rattle.cjc_check_rules.specs.ExportFile.declared.tree.ExportTree.{ExportTree}
 use Rattle.cjc_check_index.specs.Lookup.Indexed.{place_from, places_of}
 use Rattle.cjc_check_index.specs.Lookup.Tokens.{or_else}
 use Rattle.cjc_check_rules.proofs.BytesBools.{bool_either}

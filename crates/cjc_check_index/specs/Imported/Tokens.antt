@@ -2,9 +2,9 @@
 -- Virtual Machine Specification 2.2.2, 4.3.7 and chapter 5).
 use Rattle.std.specs.Prelude.{◌≡◌, ℕ, ◌+◌, List, [], ◌∷◌, map, length, Bool, ◌||◌, Some}
 use Rattle.std.specs.List.{range_with_len, list_any}
-use Rattle.cjc_check_rules.specs.LowerExportFile.declared.tree.ExportClass.{ExportClass}
-use Rattle.cjc_check_rules.specs.LowerExportFile.declared.tree.ExportTree.{ExportTree}
-use Rattle.cjc_check_rules.specs.LowerExportFile.Supers.{classes_of, upwards, has_virtual, inherits_virtual}
+use Rattle.cjc_check_rules.specs.ExportFile.declared.tree.ExportClass.{ExportClass}
+use Rattle.cjc_check_rules.specs.ExportFile.declared.tree.ExportTree.{ExportTree}
+use Rattle.cjc_check_rules.specs.ExportFile.Supers.{classes_of, upwards, has_virtual, inherits_virtual}
 use Rattle.cjc_check_index.specs.declared.imported.tokens.Tokens.{Tokens}
 use Rattle.cjc_check_rules.specs.Members.{has_static_field, has_static_method, lists_field}
 

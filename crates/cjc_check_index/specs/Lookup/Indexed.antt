@@ -2,10 +2,10 @@
 -- by token.
 use Rattle.std.specs.Prelude.{◌≡◌, ℕ, ◌+◌, ◌==◌, List, [], ◌∷◌, map, Option, Some, None, if◌then◌else◌, Bool}
 use Rattle.std.specs.List.{range_with_len}
-use Rattle.cjc_check_rules.specs.LowerCapRead.declared.tree.ClassInfo.{ClassInfo}
-use Rattle.cjc_check_rules.specs.LowerCapRead.declared.tree.ClassRef.{ClassRef}
-use Rattle.cjc_check_rules.specs.LowerExportFile.declared.tree.ExportClass.{ExportClass}
-use Rattle.cjc_check_rules.specs.LowerExportFile.declared.tree.ExportTree.{ExportTree}
+use Rattle.cjc_check_rules.specs.CapRead.declared.tree.ClassInfo.{ClassInfo}
+use Rattle.cjc_check_rules.specs.CapRead.declared.tree.ClassRef.{ClassRef}
+use Rattle.cjc_check_rules.specs.ExportFile.declared.tree.ExportClass.{ExportClass}
+use Rattle.cjc_check_rules.specs.ExportFile.declared.tree.ExportTree.{ExportTree}
 use Rattle.cjc_check_index.specs.declared.lookup.names.Names.{Names}
 use Rattle.cjc_check_index.specs.declared.lookup.names.Want.{Want}
 use Rattle.cjc_check_index.specs.declared.lookup.names.Want.TheVariants.{There, Interface, Class}

@@ -2,10 +2,10 @@
 use Rattle.std.specs.Prelude.{◌≡◌, ℕ, List, [], ◌∷◌, ◌++◌, Bool, not, ◌==◌, ◌&&◌, ◌||◌, if◌then◌else◌}
 use Rattle.std.specs.List.{list_any}
 use Rattle.std.specs.List.Sorted.{IsNonDecreasing}
-use Rattle.cjc_check_rules.specs.Bytes.AccessFlags.{is_static}
-use Rattle.cjc_check_rules.specs.LowerCapRead.declared.tree.ClassInfo.{ClassInfo}
-use Rattle.cjc_check_rules.specs.LowerCapRead.declared.tree.ClassDescriptor.{ClassDescriptor}
-use Rattle.cjc_check_rules.specs.LowerCapRead.declared.tree.MethodDescriptor.{MethodDescriptor}
+use Rattle.cjc_check_rules.specs.LowerBytes.AccessFlags.{is_static}
+use Rattle.cjc_check_rules.specs.CapRead.declared.tree.ClassInfo.{ClassInfo}
+use Rattle.cjc_check_rules.specs.CapRead.declared.tree.ClassDescriptor.{ClassDescriptor}
+use Rattle.cjc_check_rules.specs.CapRead.declared.tree.MethodDescriptor.{MethodDescriptor}
 use Rattle.cjc_check_index.specs.declared.lookup.methods.Methods.{Methods}
 use Rattle.cjc_check_rules.specs.Classes.{is_own_class}
 use Rattle.cjc_check_rules.specs.Members.{class_methods}

@@ -3,7 +3,7 @@
 ghost use Rattle.std.specs.Prelude.{◌≡◌, ◌++◌, IfOk, OnOk};
 ghost use Rattle.std.specs.Str.{bytes_eq};
 ghost use Rattle.std.specs.Cmp.{partial_equiv_from_equiv};
-ghost use Rattle.cjc_check_rules.specs.LowerExportFile.Supers.{classes_of};
+ghost use Rattle.cjc_check_rules.specs.ExportFile.Supers.{classes_of};
 ghost use Rattle.cjc_check_index.specs.Imported.Tokens.{file_starts};
 ghost use Rattle.cjc_check_index.specs.Imported.Working.Names.{HasPlace, IsIndex, fed, names-equivalence, same-fed};
 
@@ -21,7 +21,7 @@ pub(crate) struct ImportedClass<'a> {
 }
 
 impl<'a> Model for ImportedClass<'a> {
-    ghost use Rattle.cjc_check_rules.specs.LowerExportFile.declared.tree.ExportClass.{ExportClass as Class};
+    ghost use Rattle.cjc_check_rules.specs.ExportFile.declared.tree.ExportClass.{ExportClass as Class};
 
     ghost Value = { Class };
 

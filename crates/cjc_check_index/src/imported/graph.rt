@@ -7,7 +7,7 @@ ghost use Rattle.std.specs.Str.{bytes_eq};
 ghost use Rattle.indexmap.specs.IndexMap.{get};
 ghost use Rattle.cjc_check_index.specs.Imported.Working.Graph.{AreBelow, above_of, one_place, places, with_edge};
 ghost use Rattle.cjc_check_index.specs.Imported.Working.Names.{IsIndex};
-ghost use Rattle.cjc_check_rules.specs.LowerExportFile.declared.tree.ExportClass.{ExportClass as Class};
+ghost use Rattle.cjc_check_rules.specs.ExportFile.declared.tree.ExportClass.{ExportClass as Class};
 
 use crate::imported::classes::{ImportedClass, Name, Places, places_of};
 use cjc_check_rules::bytes::{Bytes, NoMemory, Row};

@@ -3,7 +3,7 @@
 
 ghost use Rattle.std.specs.Prelude.{◌≡◌, ◌==◌, ◌&&◌, IfOk, length, map};
 ghost use Rattle.std.specs.List.{list_any};
-ghost use Rattle.cjc_check_rules.specs.LowerExportFile.Supers.{is_virtual};
+ghost use Rattle.cjc_check_rules.specs.ExportFile.Supers.{is_virtual};
 ghost use Rattle.cjc_check_rules.specs.Members.{is_unbound};
 ghost use Rattle.cjc_check_index.specs.Imported.Tokens.{all_tokens, each_class};
 ghost use Rattle.cjc_check_index.specs.Imported.Working.Rows.{is_asked, is_wanted, lists_field, lists_method};

@@ -3,7 +3,7 @@
 
 ghost use Rattle.std.specs.Prelude.{◌≡◌, ◌<◌, ◌==◌, IfSome, get_or, length, option_and_then, slice_get, []};
 ghost use Rattle.std.specs.List.{find};
-ghost use Rattle.cjc_check_rules.specs.LowerExportFile.Supers.{classes_of};
+ghost use Rattle.cjc_check_rules.specs.ExportFile.Supers.{classes_of};
 ghost use Rattle.cjc_check_index.specs.Imported.Tokens.{AreTokens, file_starts};
 ghost use Rattle.cjc_check_index.specs.Imported.Working.Lookup.{answer_by_token, answer_of_class};
 ghost use Rattle.cjc_check_index.specs.Lookup.Indexed.{IsIndexed, places_of};

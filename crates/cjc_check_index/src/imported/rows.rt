@@ -1,7 +1,7 @@
 //! By token, which classes have a member or inherit one, from what each lists itself. Called by `tokens`.
 
 ghost use Rattle.std.specs.Prelude.{◌≡◌, ◌<◌, ℕ, List, IfOk, false, get_or, map, Bool};
-ghost use Rattle.cjc_check_rules.specs.LowerExportFile.declared.tree.ExportClass.{ExportClass as Class};
+ghost use Rattle.cjc_check_rules.specs.ExportFile.declared.tree.ExportClass.{ExportClass as Class};
 ghost use Rattle.cjc_check_index.specs.Imported.Tokens.{by_token, each_class};
 ghost use Rattle.cjc_check_index.specs.Imported.Working.Graph.{AreBelow, above_of};
 ghost use Rattle.cjc_check_index.specs.Imported.Working.Rows.{column, has_or_inherits, inherits, is_any_marked};

@@ -2,8 +2,8 @@
 //! Whoever tests what components name of other packages makes it.
 
 ghost use Rattle.std.specs.Prelude.{◌≡◌, List, IfOk};
-ghost use Rattle.cjc_check_rules.specs.LowerExportFile.declared.tree.ExportClass.{ExportClass as Class};
-ghost use Rattle.cjc_check_rules.specs.LowerExportFile.Supers.{has_virtual, inherits_virtual};
+ghost use Rattle.cjc_check_rules.specs.ExportFile.declared.tree.ExportClass.{ExportClass as Class};
+ghost use Rattle.cjc_check_rules.specs.ExportFile.Supers.{has_virtual, inherits_virtual};
 ghost use Rattle.cjc_check_index.specs.Imported.Tokens.{AreTokens, by_token, has_field};
 ghost use Rattle.cjc_check_index.specs.Imported.Working.Graph.{AreBelow, above_of};
 ghost use Rattle.cjc_check_index.specs.Imported.Working.Upwards.{AreUpwards};

@@ -4,7 +4,7 @@
 ghost use Rattle.std.specs.Prelude.{◌≡◌, ℕ, ◌==◌, ◌&&◌, ◌++◌, IfOk, OnOk};
 ghost use Rattle.std.specs.List.{list_any};
 ghost use Rattle.std.specs.List.Sorted.{IsNonDecreasing};
-ghost use Rattle.cjc_check_rules.specs.Bytes.AccessFlags.{is_static};
+ghost use Rattle.cjc_check_rules.specs.LowerBytes.AccessFlags.{is_static};
 ghost use Rattle.cjc_check_rules.specs.Members.{class_methods, is_method_start, is_static_start};
 ghost use Rattle.cjc_check_index.specs.Lookup.Indexed.{IsIndexed};
 ghost use Rattle.cjc_check_index.specs.Lookup.MethodStarts.{HasMethods, all_offsets, class_offsets, offset_of};

@@ -5,7 +5,7 @@
 ghost use Rattle.std.specs.Prelude.{◌≡◌, ◌==◌};
 ghost use Rattle.std.specs.List.{find};
 ghost use Rattle.std.specs.Option.{option_copied};
-ghost use Rattle.cjc_check_rules.specs.LowerCapRead.Parts.{class_of};
+ghost use Rattle.cjc_check_rules.specs.CapRead.Parts.{class_of};
 ghost use Rattle.cjc_check_rules.specs.Classes.{classes_at, imported, interfaces_at, is_own_class};
 ghost use Rattle.cjc_check_rules.specs.Spots.{begins};
 ghost use Rattle.cjc_check_index.specs.Lookup.Indexed.{IsIndexed, names_as, places_of};

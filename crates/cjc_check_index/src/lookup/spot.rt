@@ -1,7 +1,7 @@
 //! The first of two places, and the place where a test fails. The test of each sentence uses it. It knows no sentence.
 
 ghost use Rattle.std.specs.Prelude.{◌≡◌, ◌+◌, ◌<◌, ◌^◌};
-ghost use Rattle.cjc_check_rules.specs.LowerExportFile.Members.{same_bool};
+ghost use Rattle.cjc_check_rules.specs.ExportFile.Members.{same_bool};
 ghost use Rattle.cjc_check_rules.specs.Spots.{in_info, unless, earlier, first, is_up_to};
 
 use cjc_check_rules::ComponentPlace;

@@ -18,9 +18,9 @@ use Rattle.cjc_capread.specs.declared.tree.FieldPlace.TheVariants as places
 use Rattle.cjc_capread.specs.declared.tree.MethodDescriptor.{MethodDescriptor}
 use Rattle.cjc_capread.specs.declared.tree.ExportedClass.{ExportedClass}
 use Rattle.cjc_capread.specs.ClassRefs.{is_inside}
-use Rattle.cjc_tokens.specs.ClassFile.declared.tree.ClassTree.{ClassTree}
-use Rattle.cjc_tokens.specs.ClassFile.declared.tree.FieldTree.{FieldTree}
-use Rattle.cjc_components.specs.Clinit.Image.{field_id}
+use Rattle.cjc_world.specs.ClassFile.declared.tree.ClassTree.{ClassTree}
+use Rattle.cjc_world.specs.ClassFile.declared.tree.FieldTree.{FieldTree}
+use Rattle.cjc_pool.specs.Clinit.Image.{field_id}
 use Rattle.cjc_check_rules.specs.declared.spot.ComponentPlace.{ComponentPlace}
 use Rattle.cjc_check_rules.specs.Spots.{in_info, numbered, begins, unless}
 use Rattle.cjc_check_rules.specs.Classes.{classes_at, interfaces_at, is_start}
@@ -44,7 +44,7 @@ use Rattle.cjc_tokens.specs.Methods.{is_open_bound, with_high_bit}
 use Rattle.cjc_tokens.specs.Slots.{Slots, hidden_slots, shown_token, token}
 use Rattle.cjc_tokens.specs.Tokens.{OfClass, assigned, classes_from, joined, method_tokens, of_class, token_of_class}
 use Rattle.cjc_vtable.proofs.Filed.{Has, at_front, behind, has-get}
-use Rattle.cjc_ncode.specs.CardSemantics.Machine.Classes.{number_of}
+use Rattle.cjc_token_proof.specs.CardSemantics.Machine.Classes.{number_of}
 use Rattle.cjc_components.specs.Package.{Package, has_applets, tokens, world}
 use Rattle.cjc_components.specs.Class.{fields_in, fields_of}
 use Rattle.cjc_components.specs.Descriptor.{as_added, class_descriptor, field_descriptor, field_flags, fields_from}

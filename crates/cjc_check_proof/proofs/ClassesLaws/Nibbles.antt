@@ -7,9 +7,9 @@ use Rattle.std.proofs.lemmas.Bool.Decides.{nat_tests}
 use Rattle.cjc_capread.specs.Parts.{class_of}
 use Rattle.cjc_capread.specs.declared.tree.ClassRef.{ClassRef}
 use Rattle.cjc_capread.specs.declared.tree.ClassRef.TheVariants.{Inside, Outside}
-use Rattle.cjc_ncode.specs.Script.Sorts.{Booleans, Bytes, Shorts, Ints, Shape, OfClass, OfNumbers, OfReferences}
-use Rattle.cjc_ncode.specs.Script.Sorts.{Sort}
-use Rattle.cjc_ncode.specs.Script.Sorts.{Boolean, Byte, Short, Int, Reference, NoValue, Signature, field_sort}
+use Rattle.cjc_token_proof.specs.Script.Sorts.{Booleans, Bytes, Shorts, Ints, Shape, OfClass, OfNumbers, OfReferences}
+use Rattle.cjc_token_proof.specs.Script.Sorts.{Sort}
+use Rattle.cjc_token_proof.specs.Script.Sorts.{Boolean, Byte, Short, Int, Reference, NoValue, Signature, field_sort}
 use Rattle.cjc_check_rules.specs.Spots.{in_info, unless}
 use Rattle.cjc_check_rules.specs.ClassRefs.{in_nibbles}
 use Rattle.cjc_components.specs.Types.{ref_nibbles, shape_nibbles, sort_nibbles, result_nibbles, nibbles_by}

@@ -12,7 +12,7 @@ use Rattle.cjc_world.specs.Classes.{Class}
 use Rattle.cjc_world.specs.Order.{method_order}
 use Rattle.cjc_ncode.specs.declared.narrow.NMethod.{NMethod}
 use Rattle.cjc_ncode.specs.Lowering.Placed.{short_header, extended_header}
-use Rattle.cjc_components.specs.Emit.Emitted.{is_short}
+use Rattle.cjc_pool.specs.Emit.Emitted.{is_short}
 use Rattle.cjc_components.specs.Package.{LaidMethod, Package, world}
 use Rattle.cjc_components.specs.Methods.{Extent, extent_at, extent_from, extent_of, first_method, handler_count}
 use Rattle.cjc_components.specs.Methods.{is_member, method_offset, method_size, with_abstract}

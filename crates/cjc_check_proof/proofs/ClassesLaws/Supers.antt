@@ -4,9 +4,9 @@ use Rattle.std.proofs.Common.{⊎_elim}
 use Rattle.std.specs.Prelude.{not, cond, ◌⊎◌, Option, Some, option_and_then, option_to_list, if◌then◌else◌}
 use Rattle.std.specs.List.{find}
 use Rattle.cjc_bytes.specs.AccessFlags.{is_interface}
-use Rattle.cjc_tokens.specs.ExportFile.declared.tree.ExportClass.{ExportClass}
-use Rattle.cjc_tokens.specs.ExportFile.declared.tree.ExportTree.{ExportTree}
-use Rattle.cjc_ncode.specs.CardSemantics.Machine.Classes.{with_token}
+use Rattle.cjc_world.specs.ExportFile.declared.tree.ExportClass.{ExportClass}
+use Rattle.cjc_world.specs.ExportFile.declared.tree.ExportTree.{ExportTree}
+use Rattle.cjc_token_proof.specs.CardSemantics.Machine.Classes.{with_token}
 use Rattle.cjc_check_rules.specs.Classes.{class_with, imported, is_exported_interface, is_exported_class}
 use Rattle.cjc_check_rules.specs.Classes.{names_interface, names_class}
 use Rattle.cjc_world.specs.Classes.{Class, class_named}

@@ -3,10 +3,10 @@ use Rattle.std.proofs.Common.{◌≡◌, ℕ, ◌<◌, ◌==◌, ◌++◌, arith
 use Rattle.std.proofs.Common.{◌∷◌}
 use Rattle.std.specs.Prelude.{◌||◌, if◌then◌else◌, Option, Some, None, is_some, slice_get, option_map, option_and_then}
 use Rattle.std.specs.List.{list_any}
-use Rattle.cjc_ncode.specs.CardSemantics.Machine.Classes.{Own, External, external_from, or_else, with_token}
-use Rattle.cjc_tokens.specs.ExportFile.declared.tree.ExportClass.{ExportClass}
-use Rattle.cjc_tokens.specs.ExportFile.declared.tree.ExportTree.{ExportTree}
-use Rattle.cjc_tokens.specs.ExportFile.Writable.{ClassFits, EachAfter}
+use Rattle.cjc_token_proof.specs.CardSemantics.Machine.Classes.{Own, External, external_from, or_else, with_token}
+use Rattle.cjc_world.specs.ExportFile.declared.tree.ExportClass.{ExportClass}
+use Rattle.cjc_world.specs.ExportFile.declared.tree.ExportTree.{ExportTree}
+use Rattle.cjc_world.specs.ExportFile.Writable.{ClassFits, EachAfter}
 use Rattle.cjc_vtable.proofs.Filed.{Has, at_front, behind}
 use Rattle.cjc_world.specs.Classes.{Class, class_named}
 use Rattle.cjc_world.specs.Rules.{is_missing, is_none_of, lists_missing}

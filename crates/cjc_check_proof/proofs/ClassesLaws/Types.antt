@@ -6,8 +6,8 @@ use Rattle.std.specs.Prelude.{unwrap_or, if◌then◌else◌}
 use Rattle.std.specs.Str.{bytes_eq}
 use Rattle.std.proofs.lemmas.List.{length-map}
 use Rattle.std.proofs.lemmas.List.Quantifiers.{position-Some}
-use Rattle.cjc_tokens.specs.ExportFile.Supers.{is_one_of}
-use Rattle.cjc_vtable.specs.ClassOrder.Supers.Supers.{each_once}
+use Rattle.cjc_world.specs.ExportFile.Supers.{is_one_of}
+use Rattle.cjc_pool.specs.ClassOrder.Supers.Supers.{each_once}
 use Rattle.cjc_check_rules.specs.Spots.{placed, begins}
 use Rattle.cjc_check_rules.specs.Complete.{type_size}
 use Rattle.cjc_check_rules.specs.Described.{is_type}
@@ -15,7 +15,7 @@ use Rattle.cjc_components.specs.Package.{Package, pool}
 use Rattle.cjc_components.specs.Types.{nibbles_of, all_descs, types_of, type_descriptor, type_starts, type_offset}
 use Rattle.cjc_components.specs.Descriptor.{descriptor, pool_type}
 use Rattle.cjc_vtable.proofs.Filed.{Has, at_front, behind}
-use Rattle.cjc_components.specs.CapWrite.Descriptor.{type_bytes, types_bytes}
+use Rattle.cjc_pool.specs.CapWrite.Descriptor.{type_bytes, types_bytes}
 use Rattle.cjc_components.proofs.CapWriteLengths.{types_length}
 use Rattle.cjc_token_proof.proofs.ComponentsLaws.Sizes.{type_is}
 use Rattle.cjc_tokens.proofs.Facts.{position-cons}

@@ -9,11 +9,11 @@ use Rattle.std.proofs.lemmas.Bool.{eqb-true}
 use Rattle.std.proofs.lemmas.Bool.Decides.{nat_tests}
 use Rattle.std.proofs.lemmas.List.{length-map}
 use Rattle.cjc_bytes.specs.AccessFlags.{is_interface}
-use Rattle.cjc_tokens.specs.ExportFile.declared.tree.ExportClass.{ExportClass}
-use Rattle.cjc_tokens.specs.ExportFile.declared.tree.ExportMethod.{ExportMethod}
-use Rattle.cjc_tokens.specs.ExportFile.Members.{interface_token_taken}
-use Rattle.cjc_tokens.specs.ExportFile.Writable.{ClassFits, EachAfter, MethodStands}
-use Rattle.cjc_vtable.specs.Subset.Members.{imports}
+use Rattle.cjc_world.specs.ExportFile.declared.tree.ExportClass.{ExportClass}
+use Rattle.cjc_world.specs.ExportFile.declared.tree.ExportMethod.{ExportMethod}
+use Rattle.cjc_world.specs.ExportFile.Members.{interface_token_taken}
+use Rattle.cjc_world.specs.ExportFile.Writable.{ClassFits, EachAfter, MethodStands}
+use Rattle.cjc_pool.specs.Subset.Members.{imports}
 use Rattle.cjc_world.specs.Added.{by_token, own_methods, with_token, without_initialiser}
 use Rattle.cjc_world.specs.Classes.{Class, Member, imported, method_of_export}
 use Rattle.cjc_world.specs.Lookup.{is_called}

@@ -14,7 +14,7 @@ use Rattle.cjc_ncode.specs.Lowering.Naming.{Naming}
 use Rattle.cjc_ncode.specs.Lowering.Handlers.{handlers_of}
 use Rattle.cjc_ncode.specs.Lowering.Package.{all_handlers}
 use Rattle.cjc_ncode.specs.Lowering.Placed.{offset_of}
-use Rattle.cjc_components.specs.Layout.Handlers.{table_order}
+use Rattle.cjc_pool.specs.Layout.Handlers.{table_order}
 use Rattle.cjc_components.specs.Package.{LaidMethod, Package, world}
 use Rattle.cjc_components.specs.Methods.{Extent, extent_at, extent_from, extent_of, first_method, handler_count}
 use Rattle.cjc_components.specs.Methods.{method_size, placed_at, placed_from}

@@ -10,7 +10,7 @@ use Rattle.cjc_capread.specs.declared.tree.PoolEntry.TheVariants.{Classref}
 use Rattle.cjc_capread.specs.Opcodes.{Form, Fields, Table, Lookup, Operand, Byte, Signed1, Signed2, Signed4, Index1}
 use Rattle.cjc_capread.specs.Opcodes.{Index2, info}
 use Rattle.cjc_capread.specs.Decode.{AllFit, before_table, more}
-use Rattle.cjc_ncode.specs.CardSemantics.Bytecode.Meanings.{Use, Uses, meaning}
+use Rattle.cjc_token_proof.specs.CardSemantics.Bytecode.Meanings.{Use, Uses, meaning}
 use Rattle.cjc_check_rules.specs.Spots.{in_info, lies_between, unless}
 use Rattle.cjc_check_rules.specs.Codes.{Code}
 use Rattle.cjc_check_rules.specs.Instructions.{IndexOperand, index_among, index_by, index_in, indices, is_entry_for}
@@ -25,9 +25,9 @@ use Rattle.cjc_ncode.specs.PoolOrder.{class_key, insn_keys, method_keys}
 use Rattle.cjc_ncode.specs.Lowering.Naming.{Naming, entry_of}
 use Rattle.cjc_ncode.specs.Lowering.Laid.{class_index, distance, laid, untabled, wide_jump}
 use Rattle.cjc_ncode.specs.Lowering.Placed.{first, insn_size, IsSpellable, offset_of}
-use Rattle.cjc_components.specs.Layout.Forms.{a_class, asks, casts, HasForm, increase, IsTest, jump, local, lookup}
-use Rattle.cjc_components.specs.Layout.Forms.{named, numbers}
-use Rattle.cjc_components.specs.Layout.Forms.{push, range, references, words}
+use Rattle.cjc_pool.specs.Layout.Forms.{a_class, asks, casts, HasForm, increase, IsTest, jump, local, lookup}
+use Rattle.cjc_pool.specs.Layout.Forms.{named, numbers}
+use Rattle.cjc_pool.specs.Layout.Forms.{push, range, references, words}
 use Rattle.cjc_components.specs.Package.{LaidMethod}
 use Rattle.cjc_components.specs.Methods.{method_size, placed_at}
 use Rattle.cjc_token_proof.proofs.ComponentsLaws.Tests.{none_in_both, passes}

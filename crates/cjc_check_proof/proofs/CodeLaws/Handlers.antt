@@ -8,7 +8,7 @@ use Rattle.std.proofs.lemmas.Bool.Decides.{nat_tests}
 use Rattle.std.proofs.Math.Nat.{le-max_right, max-eq_left, max-eq_right, min-eq_left, min-eq_right}
 use Rattle.cjc_capread.specs.declared.tree.Handler.{Handler}
 use Rattle.cjc_capread.specs.declared.tree.PoolEntry.{PoolEntry}
-use Rattle.cjc_tokens.specs.ExportFile.Members.{same_bool}
+use Rattle.cjc_world.specs.ExportFile.Members.{same_bool}
 use Rattle.cjc_check_rules.specs.Spots.{along, in_info}
 use Rattle.cjc_check_rules.specs.Complete.{Complete}
 use Rattle.cjc_check_rules.specs.Codes.{Code, codes}
@@ -19,9 +19,9 @@ use Rattle.cjc_ncode.specs.Lowering.Naming.{Naming}
 use Rattle.cjc_ncode.specs.Lowering.Laid.{class_index}
 use Rattle.cjc_ncode.specs.Lowering.Handlers.{handler_of, handlers_of, meets, meets_any}
 use Rattle.cjc_ncode.specs.Lowering.Package.{all_handlers}
-use Rattle.cjc_components.specs.Layout.Handlers.{Lies, table_order}
-use Rattle.cjc_components.specs.Emit.Emitted.{CanBeWritten}
-use Rattle.cjc_components.specs.Emit.Emitted as Emitted
+use Rattle.cjc_pool.specs.Layout.Handlers.{Lies, table_order}
+use Rattle.cjc_pool.specs.Emit.Emitted.{CanBeWritten}
+use Rattle.cjc_pool.specs.Emit.Emitted as Emitted
 use Rattle.cjc_components.specs.Package.{LaidMethod}
 use Rattle.cjc_components.specs.Methods.{method_size, placed_from}
 use Rattle.cjc_token_proof.proofs.ComponentsLaws.Tests.{none_in_both, passes}

@@ -7,7 +7,7 @@ use Rattle.cjc_capread.specs.MethodHeader.{MethodHeader, is_extended, is_abstrac
 use Rattle.cjc_capread.specs.MethodHeader as reading
 use Rattle.cjc_ncode.specs.declared.narrow.NMethod.{NMethod}
 use Rattle.cjc_ncode.specs.Lowering.Placed as writing
-use Rattle.cjc_components.specs.Emit.Emitted.{header_bytes, is_short}
+use Rattle.cjc_pool.specs.Emit.Emitted.{header_bytes, is_short}
 use Rattle.cjc_components.proofs.EmitShifted.{header_read}
 use Rattle.cjc_components.specs.Package.{LaidMethod}
 use Rattle.cjc_components.specs.Methods.{header_of, with_abstract}

@@ -11,14 +11,14 @@ use Rattle.cjc_bytes.specs.declared.fault.MemberId.{MemberId}
 use Rattle.cjc_bytes.specs.AccessFlags.{is_static}
 use Rattle.cjc_bytes.proofs.Numbers.{like_number}
 use Rattle.cjc_bytes.proofs.Gets.{in_front, get_behind}
-use Rattle.cjc_tokens.specs.ExportFile.declared.tree.ExportClass.{ExportClass}
-use Rattle.cjc_tokens.specs.ExportFile.declared.tree.ExportField.{ExportField}
-use Rattle.cjc_tokens.specs.ExportFile.declared.tree.ExportMethod.{ExportMethod}
-use Rattle.cjc_tokens.specs.ExportFile.declared.tree.ExportTree.{ExportTree}
+use Rattle.cjc_world.specs.ExportFile.declared.tree.ExportClass.{ExportClass}
+use Rattle.cjc_world.specs.ExportFile.declared.tree.ExportField.{ExportField}
+use Rattle.cjc_world.specs.ExportFile.declared.tree.ExportMethod.{ExportMethod}
+use Rattle.cjc_world.specs.ExportFile.declared.tree.ExportTree.{ExportTree}
 use Rattle.cjc_capread.specs.declared.tree.ClassRef.TheVariants.{Outside}
 use Rattle.cjc_capread.specs.declared.tree.ClassEntry.{ClassEntry}
-use Rattle.cjc_tokens.specs.ExportFile.Supers.{classes_of, has_virtual as lists_or_inherits, inherits_virtual}
-use Rattle.cjc_tokens.specs.ExportFile.Supers.{is_virtual, upwards}
+use Rattle.cjc_world.specs.ExportFile.Supers.{classes_of, has_virtual as lists_or_inherits, inherits_virtual}
+use Rattle.cjc_world.specs.ExportFile.Supers.{is_virtual, upwards}
 use Rattle.cjc_check_rules.specs.Spots.{Placed}
 use Rattle.cjc_check_rules.specs.Classes.{class_with, classes_at, imported}
 use Rattle.cjc_check_rules.specs.Members.{class_has, class_has_field, describes_field, has_field, has_static_field}

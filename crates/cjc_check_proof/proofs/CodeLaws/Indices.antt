@@ -9,8 +9,8 @@ use Rattle.std.proofs.lemmas.Bool.{and_right}
 use Rattle.cjc_capread.specs.Opcodes.{Form, Fields, Table, Lookup, Operand, Byte, Signed1, Signed2, Signed4, Index1}
 use Rattle.cjc_capread.specs.Opcodes.{Index2, form, forms, info, op_info}
 use Rattle.cjc_capread.specs.Decode.{AllFit, Instruction, before_table, more}
-use Rattle.cjc_ncode.specs.CardSemantics.Bytecode.Meanings.{Ranged, Paired, meaning}
-use Rattle.cjc_ncode.specs.Script.Sorts.{Element, Booleans, Bytes, Shorts, Ints}
+use Rattle.cjc_token_proof.specs.CardSemantics.Bytecode.Meanings.{Ranged, Paired, meaning}
+use Rattle.cjc_token_proof.specs.Script.Sorts.{Element, Booleans, Bytes, Shorts, Ints}
 use Rattle.cjc_check_rules.specs.Spots.{Placed, lies_between}
 use Rattle.cjc_check_rules.specs.Instructions.{IndexOperand, index_among, index_by, index_in, indices}
 use Rattle.cjc_check_rules.specs.Instructions.{is_type_of_numbers, names_no_class}
@@ -21,10 +21,10 @@ use Rattle.cjc_ncode.specs.declared.narrow.NInsn.TheVariants as insns
 use Rattle.cjc_ncode.specs.Lowering.Naming.{Naming}
 use Rattle.cjc_ncode.specs.Lowering.Laid.{distance, element_number, laid, switch_as, untabled, wide_jump}
 use Rattle.cjc_ncode.specs.Lowering.Placed.{insn_size, IsSpellable}
-use Rattle.cjc_components.specs.Layout.Forms.{a_class, asks, casts, HasForm, increase, IsTest, jump, local, lookup}
-use Rattle.cjc_components.specs.Layout.Forms.{named, numbers}
-use Rattle.cjc_components.specs.Layout.Forms.{push, range, references, words}
-use Rattle.cjc_components.specs.Emit.Emitted.{code_places, index_place, insn_places}
+use Rattle.cjc_pool.specs.Layout.Forms.{a_class, asks, casts, HasForm, increase, IsTest, jump, local, lookup}
+use Rattle.cjc_pool.specs.Layout.Forms.{named, numbers}
+use Rattle.cjc_pool.specs.Layout.Forms.{push, range, references, words}
+use Rattle.cjc_pool.specs.Emit.Emitted.{code_places, index_place, insn_places}
 use Rattle.cjc_check_proof.specs.Code.Codes.{laid_code}
 use Rattle.cjc_check_proof.proofs.CodeLaws.Instructions.{AllSpelt, first_spelt, next_spelt}
 use Rattle.cjc_check_proof.proofs.CodeLaws.Opcodes.{is_paired, is_ranged, is_test, is_use, names_nothing, none_is_index}

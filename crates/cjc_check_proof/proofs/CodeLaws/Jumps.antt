@@ -10,7 +10,7 @@ use Rattle.std.proofs.lemmas.Int.{ints}
 use Rattle.std.proofs.lemmas.Map.Keys.{any_passes_from_place}
 use Rattle.cjc_capread.specs.Opcodes.{Form, Fields, Table, Lookup, form, forms}
 use Rattle.cjc_capread.specs.Decode.{Instruction}
-use Rattle.cjc_ncode.specs.CardSemantics.Bytecode.Meanings.{Ranged, Paired, meaning}
+use Rattle.cjc_token_proof.specs.CardSemantics.Bytecode.Meanings.{Ranged, Paired, meaning}
 use Rattle.cjc_check_rules.specs.Spots.{Placed, in_info}
 use Rattle.cjc_check_rules.specs.Codes.{Code}
 use Rattle.cjc_check_rules.specs.Instructions.{code_spots, ends_code, in_code, is_empty, is_jump, jumps, jumps_land}
@@ -21,10 +21,10 @@ use Rattle.cjc_ncode.specs.declared.narrow.NInsn.TheVariants as insns
 use Rattle.cjc_ncode.specs.Lowering.Naming.{Naming}
 use Rattle.cjc_ncode.specs.Lowering.Laid.{distance, laid, matches, offsets, switch_as, untabled, wide_jump}
 use Rattle.cjc_ncode.specs.Lowering.Placed.{bytes_before, first, insn_size, offset_of}
-use Rattle.cjc_components.specs.Layout.Forms.{HasForm, push, local, increase, words, range, lookup, named, casts, asks}
-use Rattle.cjc_components.specs.Layout.Sizes.{AllLead, CasesLead, Leads}
-use Rattle.cjc_components.specs.Emit.Emitted.{CanBeWritten}
-use Rattle.cjc_components.specs.Emit.Emitted as Emitted
+use Rattle.cjc_pool.specs.Layout.Forms.{HasForm, push, local, increase, words, range, lookup, named, casts, asks}
+use Rattle.cjc_pool.specs.Layout.Sizes.{AllLead, CasesLead, Leads}
+use Rattle.cjc_pool.specs.Emit.Emitted.{CanBeWritten}
+use Rattle.cjc_pool.specs.Emit.Emitted as Emitted
 use Rattle.cjc_components.specs.Package.{LaidMethod}
 use Rattle.cjc_components.specs.Methods.{method_size, placed_at}
 use Rattle.cjc_token_proof.proofs.ComponentsLaws.Tests.{none_in_both, passes}

@@ -7,7 +7,7 @@ use Rattle.cjc_check_rules.specs.Instructions.{indices}
 use Rattle.cjc_check_rules.specs.Locations.{are_listed, differ, places_of}
 use Rattle.cjc_ncode.specs.Lowering.Naming.{Naming}
 use Rattle.cjc_ncode.specs.Lowering.Placed as Lower
-use Rattle.cjc_components.specs.Emit.Emitted.{code_places}
+use Rattle.cjc_pool.specs.Emit.Emitted.{code_places}
 use Rattle.cjc_components.specs.Package.{LaidMethod}
 use Rattle.cjc_components.specs.Methods.{method_size, placed_at, placed_from}
 use Rattle.cjc_token_proof.proofs.ComponentsLaws.Tests.{none_in_both, passes}

@@ -19,15 +19,15 @@ use Rattle.cjc_capread.specs.declared.tree.FieldPlace.TheVariants as places
 use Rattle.cjc_capread.specs.declared.tree.MethodDescriptor.{MethodDescriptor}
 use Rattle.cjc_capread.specs.declared.tree.StaticRef.TheVariants as refs
 use Rattle.cjc_capread.specs.ClassRefs.{same_class}
-use Rattle.cjc_ncode.specs.CardSemantics.Machine.Classes.{Class as CardClass, External, Own}
-use Rattle.cjc_tokens.specs.ClassFile.declared.tree.FieldTree.{FieldTree}
+use Rattle.cjc_token_proof.specs.CardSemantics.Machine.Classes.{Class as CardClass, External, Own}
+use Rattle.cjc_world.specs.ClassFile.declared.tree.FieldTree.{FieldTree}
 use Rattle.cjc_check_rules.specs.Spots.{along, in_info, unless}
 use Rattle.cjc_check_rules.specs.Members.{all_fields, class_methods, has_field, is_cell_at, is_instance}
 use Rattle.cjc_check_rules.specs.Members.{is_method_start}
 use Rattle.cjc_check_rules.specs.PoolEntries.{is_field, is_method, names_member, pool_spots}
-use Rattle.cjc_tokens.specs.ExportFile.Members.{is_constant_type}
+use Rattle.cjc_world.specs.ExportFile.Members.{is_constant_type}
 use Rattle.cjc_tokens.specs.Fields.{is_constant}
-use Rattle.cjc_components.specs.Clinit.Image.{field_id}
+use Rattle.cjc_pool.specs.Clinit.Image.{field_id}
 use Rattle.cjc_world.specs.declared.found.Found.{Found}
 use Rattle.cjc_world.specs.declared.image.ArrayCell.{ArrayCell}
 use Rattle.cjc_world.specs.declared.image.StaticImage.{StaticImage}

@@ -16,8 +16,8 @@ use Rattle.cjc_ncode.proofs.LoweringLaws.Bytes.{AllSized, drop_drop, length_spel
 use Rattle.cjc_ncode.proofs.LoweringLaws.Packed.{code_length}
 use Rattle.cjc_ncode.proofs.LoweringLaws.Places.{size_same}
 use Rattle.cjc_components.proofs.LayoutLowered.{before_same}
-use Rattle.cjc_components.specs.Emit.Emitted.{CanBeWritten, header_bytes}
-use Rattle.cjc_components.specs.Emit.Emitted as Emitted
+use Rattle.cjc_pool.specs.Emit.Emitted.{CanBeWritten, header_bytes}
+use Rattle.cjc_pool.specs.Emit.Emitted as Emitted
 use Rattle.cjc_components.proofs.EmitShifted.{laid_shift}
 use Rattle.cjc_components.specs.Package.{LaidMethod}
 use Rattle.cjc_components.specs.Methods.{bytecode_count, header_of, method_size, placed_at, placed_from}

@@ -6,11 +6,11 @@ use Rattle.std.specs.Prelude.{◌&&◌, not, if◌then◌else◌}
 use Rattle.std.proofs.lemmas.Bool.{cases_lt}
 use Rattle.cjc_capread.specs.Opcodes.{Form, Fields, Table, Lookup, Operand, Byte, Signed1, Signed2, Signed4, Index1}
 use Rattle.cjc_capread.specs.Opcodes.{Index2, form, forms}
-use Rattle.cjc_ncode.specs.CardSemantics.Bytecode.Meanings.{Use, Gets, Puts, GetsStatic, PutsStatic, Calls, Makes}
-use Rattle.cjc_ncode.specs.CardSemantics.Bytecode.Meanings.{MakesReferences, Virtual, Special, Static, Meaning}
-use Rattle.cjc_ncode.specs.CardSemantics.Bytecode.Meanings.{Plain}
-use Rattle.cjc_ncode.specs.CardSemantics.Bytecode.Meanings.{Branches, Ranged, Paired, Uses, Casts, Asks, Nothing}
-use Rattle.cjc_ncode.specs.CardSemantics.Bytecode.Meanings.{meaning, known_meaning}
+use Rattle.cjc_token_proof.specs.CardSemantics.Bytecode.Meanings.{Use, Gets, Puts, GetsStatic, PutsStatic, Calls, Makes}
+use Rattle.cjc_token_proof.specs.CardSemantics.Bytecode.Meanings.{MakesReferences, Virtual, Special, Static, Meaning}
+use Rattle.cjc_token_proof.specs.CardSemantics.Bytecode.Meanings.{Plain}
+use Rattle.cjc_token_proof.specs.CardSemantics.Bytecode.Meanings.{Branches, Ranged, Paired, Uses, Casts, Asks, Nothing}
+use Rattle.cjc_token_proof.specs.CardSemantics.Bytecode.Meanings.{meaning, known_meaning}
 use Rattle.cjc_check_rules.specs.Spots.{lies_between}
 use Rattle.cjc_check_rules.specs.Instructions.{ends_code, is_jump, is_needed_by}
 use Rattle.cjc_capread.specs.declared.tree.ClassRef.TheVariants.{Inside}

@@ -13,8 +13,8 @@ use Rattle.cjc_ncode.specs.Lowering.Naming.{Naming}
 use Rattle.cjc_ncode.specs.Lowering.Placed.{bytes_before, first, insn_size, offset_of}
 use Rattle.cjc_ncode.proofs.LoweringLaws.Places.{at_least_one, before_ascends, before_grows, before_over}
 use Rattle.cjc_components.proofs.LayoutLowered.{before_same}
-use Rattle.cjc_components.specs.Emit.Emitted.{CanBeWritten}
-use Rattle.cjc_components.specs.Emit.Emitted as Emitted
+use Rattle.cjc_pool.specs.Emit.Emitted.{CanBeWritten}
+use Rattle.cjc_pool.specs.Emit.Emitted as Emitted
 use Rattle.cjc_components.specs.Package.{LaidMethod}
 use Rattle.cjc_components.specs.Methods.{bytecode_count, method_size, placed_at}
 use Rattle.cjc_check_proof.specs.Code.Codes.{code_at, laid_code}

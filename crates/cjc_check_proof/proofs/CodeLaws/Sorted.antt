@@ -5,7 +5,7 @@ use Rattle.std.specs.Prelude.{filter, nat_le, cond, if◌then◌else◌}
 use Rattle.std.specs.List.{AllByRecursion}
 use Rattle.std.proofs.lemmas.Bool.{leb-false, leb-true, ltb-true}
 use Rattle.cjc_ncode.specs.declared.narrow.NCatch.{NCatch}
-use Rattle.cjc_components.specs.Layout.Handlers.{AllLie, by_target, has_range, inserted, Lies, table_order}
+use Rattle.cjc_pool.specs.Layout.Handlers.{AllLie, by_target, has_range, inserted, Lies, table_order}
 
 module _ (P : NCatch → Type 0) where
   each_inserted : (c : NCatch) (ds : List NCatch) → P c → AllByRecursion P ds → AllByRecursion P (inserted c ds)

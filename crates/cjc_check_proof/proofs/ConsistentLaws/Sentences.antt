@@ -3,7 +3,7 @@ use Rattle.std.proofs.Common.{◌≡◌, refl, sym, ap, subst, Bool, true, false
 use Rattle.std.specs.Prelude.{◌&&◌, Some}
 use Rattle.std.specs.List.{list_all}
 use Rattle.cjc_capread.specs.declared.tree.CapTree.{CapTree}
-use Rattle.cjc_tokens.specs.ExportFile.declared.tree.ExportTree.{ExportTree}
+use Rattle.cjc_world.specs.ExportFile.declared.tree.ExportTree.{ExportTree}
 use Rattle.cjc_check_rules.specs.Complete.{Complete, complete}
 use Rattle.cjc_check_rules.specs.Consistent.{Consistent, Sentence, is_true, of_complete, where_complete}
 use Rattle.cjc_check_rules.specs.Listed.{directory_spots, flags_spots}

@@ -4,10 +4,10 @@ use Rattle.std.specs.Prelude.{Some, slice_get, is_some, map, not, ◌&&◌, ◌|
 use Rattle.cjc_bytes.specs.AccessFlags.{has, is_abstract, is_interface, is_private, is_protected, is_public, is_static}
 use Rattle.cjc_bytes.specs.declared.settings.Settings.{Settings}
 use Rattle.cjc_bytes.proofs.Bools.{or_left, or_right}
-use Rattle.cjc_tokens.specs.ClassFile.declared.tree.ClassTree.{ClassTree}
-use Rattle.cjc_tokens.specs.ClassFile.declared.tree.MethodTree.{MethodTree}
-use Rattle.cjc_ncode.specs.Bytecode.declared.method_code.MethodCode.{MethodCode}
-use Rattle.cjc_vtable.specs.Subset.Flags.{has_two_accesses, is_unfit_method, is_unfit_method_kind}
+use Rattle.cjc_world.specs.ClassFile.declared.tree.ClassTree.{ClassTree}
+use Rattle.cjc_world.specs.ClassFile.declared.tree.MethodTree.{MethodTree}
+use Rattle.cjc_components.specs.Bytecode.declared.method_code.MethodCode.{MethodCode}
+use Rattle.cjc_pool.specs.Subset.Flags.{has_two_accesses, is_unfit_method, is_unfit_method_kind}
 use Rattle.cjc_world.specs.Classes.{Class, Member, class_named, method_of_class}
 use Rattle.cjc_tokens.specs.Members.{is_constructor, is_exposed, is_initialiser}
 use Rattle.cjc_vtable.specs.Kept.{BreaksNone}

@@ -7,8 +7,8 @@ use Rattle.std.proofs.lemmas.List.{length-map}
 use Rattle.cjc_bytes.specs.AccessFlags.{is_interface}
 use Rattle.cjc_bytes.proofs.Bools.{both_front, both_back}
 use Rattle.cjc_bytes.proofs.Gets.{in_front}
-use Rattle.cjc_components.specs.CapWrite.Fits.{ClassEntryFits, ClassFits, ClassInfoFits, Fits2, ImplementedFits}
-use Rattle.cjc_components.specs.CapWrite.Fits.{InterfaceFits}
+use Rattle.cjc_pool.specs.CapWrite.Fits.{ClassEntryFits, ClassFits, ClassInfoFits, Fits2, ImplementedFits}
+use Rattle.cjc_pool.specs.CapWrite.Fits.{InterfaceFits}
 use Rattle.cjc_world.specs.declared.found.Found.{Found}
 use Rattle.cjc_world.specs.Classes.{Class}
 use Rattle.cjc_world.specs.Order.{and_then, class_order, in_order, is_in, is_of_kind, lined_up, may_stand, next, waits}

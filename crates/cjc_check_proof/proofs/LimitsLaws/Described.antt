@@ -14,21 +14,21 @@ use Rattle.cjc_capread.specs.declared.tree.ClassRef.{ClassRef}
 use Rattle.cjc_capread.specs.declared.tree.ClassRef.TheVariants.{Inside, Outside}
 use Rattle.cjc_capread.specs.declared.tree.ClassDescriptor.{ClassDescriptor}
 use Rattle.cjc_capread.specs.declared.tree.FieldPlace.TheVariants as places
-use Rattle.cjc_components.specs.CapWrite.Descriptor.{class_descriptor_bytes, type_bytes}
-use Rattle.cjc_components.specs.CapWrite.Files.{is_wide}
-use Rattle.cjc_components.specs.CapWrite.Fits.{ClassDescriptorFits, ClassFits, DescriptorFits, FieldFits, Fits2}
-use Rattle.cjc_components.specs.CapWrite.Fits.{MethodDescriptorFits, PlaceFits, TypeDescriptorFits, TypeFits}
+use Rattle.cjc_pool.specs.CapWrite.Descriptor.{class_descriptor_bytes, type_bytes}
+use Rattle.cjc_pool.specs.CapWrite.Files.{is_wide}
+use Rattle.cjc_pool.specs.CapWrite.Fits.{ClassDescriptorFits, ClassFits, DescriptorFits, FieldFits, Fits2}
+use Rattle.cjc_pool.specs.CapWrite.Fits.{MethodDescriptorFits, PlaceFits, TypeDescriptorFits, TypeFits}
 use Rattle.cjc_components.proofs.CapWriteLengths.{class_descriptor_length, descriptor_length, types_length}
-use Rattle.cjc_tokens.specs.ClassFile.declared.tree.FieldTree.{FieldTree}
-use Rattle.cjc_components.specs.Clinit.Image.{field_id}
-use Rattle.cjc_tokens.specs.ExportFile.Supers.{is_one_of}
-use Rattle.cjc_ncode.specs.Script.Sorts.{Element, Booleans, Bytes, Shorts, Ints, Shape, OfClass, OfNumbers}
-use Rattle.cjc_ncode.specs.Script.Sorts.{OfReferences}
-use Rattle.cjc_ncode.specs.Script.Sorts.{Sort, Boolean, Byte, Short, Int, Reference, NoValue, Signature}
-use Rattle.cjc_ncode.specs.Script.Sorts.{field_sort}
-use Rattle.cjc_ncode.specs.Script.Sorts.{signature_of}
+use Rattle.cjc_world.specs.ClassFile.declared.tree.FieldTree.{FieldTree}
+use Rattle.cjc_pool.specs.Clinit.Image.{field_id}
+use Rattle.cjc_world.specs.ExportFile.Supers.{is_one_of}
+use Rattle.cjc_token_proof.specs.Script.Sorts.{Element, Booleans, Bytes, Shorts, Ints, Shape, OfClass, OfNumbers}
+use Rattle.cjc_token_proof.specs.Script.Sorts.{OfReferences}
+use Rattle.cjc_token_proof.specs.Script.Sorts.{Sort, Boolean, Byte, Short, Int, Reference, NoValue, Signature}
+use Rattle.cjc_token_proof.specs.Script.Sorts.{field_sort}
+use Rattle.cjc_token_proof.specs.Script.Sorts.{signature_of}
 use Rattle.cjc_check_rules.specs.Complete.{type_size}
-use Rattle.cjc_vtable.specs.ClassOrder.Supers.Supers.{each_once}
+use Rattle.cjc_pool.specs.ClassOrder.Supers.Supers.{each_once}
 use Rattle.cjc_tokens.specs.Fields.{is_constant}
 use Rattle.cjc_world.specs.declared.found.Found.{Found}
 use Rattle.cjc_world.specs.Classes.{Class}

@@ -2,9 +2,9 @@
 use Rattle.std.proofs.Common.{◌≡◌, ℕ, ◌^◌, ◌<◌, ◌≤◌, refl, List, [], ◌∷◌, map, length, arith, Option, Some, None}
 use Rattle.std.specs.Prelude.{slice_get, filter, unwrap_or, IfSome}
 use Rattle.std.proofs.lemmas.List.{length-map}
-use Rattle.cjc_components.specs.CapWrite.Fits.{ExportedClassFits, ExportFits, Fits2}
-use Rattle.cjc_tokens.specs.ClassFile.declared.tree.FieldTree.{FieldTree}
-use Rattle.cjc_components.specs.Clinit.Image.{field_id}
+use Rattle.cjc_pool.specs.CapWrite.Fits.{ExportedClassFits, ExportFits, Fits2}
+use Rattle.cjc_world.specs.ClassFile.declared.tree.FieldTree.{FieldTree}
+use Rattle.cjc_pool.specs.Clinit.Image.{field_id}
 use Rattle.cjc_tokens.specs.Fields.{is_open_static}
 use Rattle.cjc_world.specs.Classes.{Class}
 use Rattle.cjc_components.specs.Package.{Package}

@@ -5,8 +5,8 @@ use Rattle.std.specs.List.{list_any}
 use Rattle.std.proofs.lemmas.Bool.Decides.{nat_tests}
 use Rattle.cjc_bytes.specs.Breaks.{Break, RulePlace, at}
 use Rattle.cjc_bytes.proofs.Bools.{or_left, or_right}
-use Rattle.cjc_components.specs.CapWrite.Files.{Infos, infos_of, is_too_large, is_wide}
-use Rattle.cjc_components.specs.CapWrite.Descriptor.{types_bytes}
+use Rattle.cjc_pool.specs.CapWrite.Files.{Infos, infos_of, is_too_large, is_wide}
+use Rattle.cjc_pool.specs.CapWrite.Descriptor.{types_bytes}
 use Rattle.cjc_components.specs.Package.{Package, pool}
 use Rattle.cjc_components.specs.Components.{components_of}
 use Rattle.cjc_components.specs.Descriptor.{descriptor}

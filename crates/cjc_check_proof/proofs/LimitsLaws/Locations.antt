@@ -1,7 +1,7 @@
 -- ReferenceLocation.
 use Rattle.std.proofs.Common.{◌^◌, ◌<◌, ◌≤◌, length, arith}
-use Rattle.cjc_components.specs.CapWrite.Fits.{LocationsFit}
-use Rattle.cjc_components.specs.CapWrite.Statics.{reference_location_bytes}
+use Rattle.cjc_pool.specs.CapWrite.Fits.{LocationsFit}
+use Rattle.cjc_pool.specs.CapWrite.Statics.{reference_location_bytes}
 use Rattle.cjc_components.proofs.CapWriteLengths.{locations_length}
 use Rattle.cjc_components.specs.Package.{Package}
 use Rattle.cjc_components.specs.Components.{reference_location}

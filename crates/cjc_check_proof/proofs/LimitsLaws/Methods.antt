@@ -9,12 +9,12 @@ use Rattle.cjc_capread.specs.Decode.{Instruction, before_table, in_table, operan
 use Rattle.cjc_capread.specs.Decode as Decode
 use Rattle.cjc_capread.specs.Opcodes.{Operand, Byte, Signed1, Signed2, Signed4, Index1, Index2, Form, form, width}
 use Rattle.cjc_capread.specs.Opcodes.{widths}
-use Rattle.cjc_components.specs.CapWrite.Fits.{HandlerFits, MethodFits}
-use Rattle.cjc_components.specs.CapWrite.Method.{method_bytes}
+use Rattle.cjc_pool.specs.CapWrite.Fits.{HandlerFits, MethodFits}
+use Rattle.cjc_pool.specs.CapWrite.Method.{method_bytes}
 use Rattle.cjc_components.proofs.CapWriteLengths.{method_length}
-use Rattle.cjc_components.specs.Narrow.Keys.Index.{index_of}
-use Rattle.cjc_components.specs.Layout.Handlers.{table_order}
-use Rattle.cjc_components.specs.Layout.Sizes as Sizes
+use Rattle.cjc_pool.specs.Narrow.Keys.Index.{index_of}
+use Rattle.cjc_pool.specs.Layout.Handlers.{table_order}
+use Rattle.cjc_pool.specs.Layout.Sizes as Sizes
 use Rattle.cjc_components.proofs.LayoutLowered.{before_same}
 use Rattle.cjc_ncode.specs.Lowering.Handlers.{handlers_of}
 use Rattle.cjc_ncode.specs.Lowering.Laid.{class_index, laid}

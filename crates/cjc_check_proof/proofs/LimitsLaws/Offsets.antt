@@ -5,16 +5,16 @@ use Rattle.std.specs.Prelude.{sum_by, flat_map, slice_get, if◌then◌else◌}
 use Rattle.std.specs.List.{AllByRecursion}
 use Rattle.std.proofs.lemmas.List.Sums.{sum_by-cons}
 use Rattle.cjc_bytes.specs.declared.fault.MemberId.{MemberId}
-use Rattle.cjc_components.specs.CapWrite.Descriptor.{class_descriptor_bytes, descriptor_bytes}
+use Rattle.cjc_pool.specs.CapWrite.Descriptor.{class_descriptor_bytes, descriptor_bytes}
 use Rattle.cjc_components.proofs.CapWriteLengths.{class_descriptor_length, descriptor_length}
-use Rattle.cjc_ncode.specs.Script.Sorts.{Sort, Boolean, Byte, Short, Int, Reference, NoValue, field_sort}
+use Rattle.cjc_token_proof.specs.Script.Sorts.{Sort, Boolean, Byte, Short, Int, Reference, NoValue, field_sort}
 use Rattle.cjc_world.specs.declared.found.Found.{Found}
 use Rattle.cjc_world.specs.Classes.{Class}
 use Rattle.cjc_world.specs.Order.{class_order}
 use Rattle.cjc_ncode.specs.declared.narrow.NMethod.{NMethod}
 use Rattle.cjc_ncode.specs.PoolOrder.{same_member}
 use Rattle.cjc_ncode.specs.Lowering.Placed.{short_header, extended_header}
-use Rattle.cjc_components.specs.Emit.Emitted.{is_short}
+use Rattle.cjc_pool.specs.Emit.Emitted.{is_short}
 use Rattle.cjc_components.proofs.LayoutPlaces.{all_wide}
 use Rattle.cjc_components.specs.Limits.{widest_method}
 use Rattle.cjc_components.specs.Package.{LaidMethod, Package, world}

@@ -4,8 +4,8 @@ use Rattle.std.specs.Prelude.{nat_le, ◌&&◌, Some, None, IfSome, codes, if◌
 use Rattle.std.proofs.lemmas.Bool.Decides.{nat_tests}
 use Rattle.std.specs.List.{AllByRecursion}
 use Rattle.std.proofs.lemmas.List.{length-map}
-use Rattle.cjc_components.specs.CapWrite.Fits.{AppletEntryFits, AppletFits, HeaderFits, ImportedPackageFits, ImportFits}
-use Rattle.cjc_tokens.specs.ExportFile.Pool.{aid_length}
+use Rattle.cjc_pool.specs.CapWrite.Fits.{AppletEntryFits, AppletFits, HeaderFits, ImportedPackageFits, ImportFits}
+use Rattle.cjc_world.specs.ExportFile.Pool.{aid_length}
 use Rattle.cjc_components.specs.Package.{Package}
 use Rattle.cjc_components.specs.Components.{applet, applet_entry, applet_with, header, import, imported_package}
 use Rattle.cjc_check_proof.specs.Limits.Premises.{IsLimited}

@@ -1,7 +1,7 @@
 -- ConstantPool.
 use Rattle.std.proofs.Common.{◌^◌, ◌<◌, map, length, arith}
 use Rattle.std.proofs.lemmas.List.{length-map}
-use Rattle.cjc_components.specs.CapWrite.Fits.{PoolEntryFits, PoolFits}
+use Rattle.cjc_pool.specs.CapWrite.Fits.{PoolEntryFits, PoolFits}
 use Rattle.cjc_ncode.specs.declared.narrow.PoolKey.{PoolKey}
 use Rattle.cjc_ncode.specs.declared.narrow.PoolKey.TheVariants as keys
 use Rattle.cjc_ncode.specs.Lowering.Naming.{entry_of}

@@ -12,16 +12,16 @@ use Rattle.cjc_bytes.proofs.Quantified.{all_both}
 use Rattle.cjc_bytes.proofs.Lists.{each_size, sums_same}
 use Rattle.cjc_capread.specs.declared.tree.ClassRef.{ClassRef}
 use Rattle.cjc_capread.specs.declared.tree.ClassRef.TheVariants.{Inside}
-use Rattle.cjc_components.specs.CapWrite.Class.{interface_bytes, class_entry_bytes, class_info_bytes}
-use Rattle.cjc_components.specs.CapWrite.Fits.{ClassFits, StaticFits}
+use Rattle.cjc_pool.specs.CapWrite.Class.{interface_bytes, class_entry_bytes, class_info_bytes}
+use Rattle.cjc_pool.specs.CapWrite.Fits.{ClassFits, StaticFits}
 use Rattle.cjc_components.proofs.CapWriteLengths.{interface_length, class_info_length}
-use Rattle.cjc_ncode.specs.CardSemantics.Machine.Classes.{Class as CardClass, Own, External, external_from}
-use Rattle.cjc_ncode.specs.CardSemantics.Machine.Classes.{or_else}
-use Rattle.cjc_ncode.specs.CardSemantics.Machine.Classes.{token_named}
-use Rattle.cjc_tokens.specs.ExportFile.declared.tree.ExportClass.{ExportClass}
-use Rattle.cjc_tokens.specs.ExportFile.declared.tree.ExportTree.{ExportTree}
-use Rattle.cjc_tokens.specs.ExportFile.Writable.{EachAfter, IsWritable}
-use Rattle.cjc_tokens.specs.ExportFile.Writable as Writable
+use Rattle.cjc_token_proof.specs.CardSemantics.Machine.Classes.{Class as CardClass, Own, External, external_from}
+use Rattle.cjc_token_proof.specs.CardSemantics.Machine.Classes.{or_else}
+use Rattle.cjc_token_proof.specs.CardSemantics.Machine.Classes.{token_named}
+use Rattle.cjc_world.specs.ExportFile.declared.tree.ExportClass.{ExportClass}
+use Rattle.cjc_world.specs.ExportFile.declared.tree.ExportTree.{ExportTree}
+use Rattle.cjc_world.specs.ExportFile.Writable.{EachAfter, IsWritable}
+use Rattle.cjc_world.specs.ExportFile.Writable as Writable
 use Rattle.cjc_check_rules.specs.Spots.{placed, starts}
 use Rattle.cjc_check_rules.specs.Complete.{interface_size, class_size, class_info_size}
 use Rattle.cjc_check_rules.specs.Classes.{first_interface, first_class}

@@ -10,10 +10,10 @@ use Rattle.cjc_bytes.specs.declared.descriptor.Kind.{Kind}
 use Rattle.cjc_bytes.specs.declared.descriptor.Kind.TheVariants as kinds
 use Rattle.cjc_capread.specs.declared.tree.ArrayInit.{ArrayInit}
 use Rattle.cjc_capread.specs.declared.tree.StaticField.{StaticField}
-use Rattle.cjc_components.specs.CapWrite.Fits.{ArrayInitFits, StaticFieldFits}
-use Rattle.cjc_components.specs.CapWrite.Statics.{array_init_bytes, static_field_bytes}
+use Rattle.cjc_pool.specs.CapWrite.Fits.{ArrayInitFits, StaticFieldFits}
+use Rattle.cjc_pool.specs.CapWrite.Statics.{array_init_bytes, static_field_bytes}
 use Rattle.cjc_components.proofs.CapWriteLengths.{array_init_length, static_field_length}
-use Rattle.cjc_ncode.specs.Script.Sorts.{Sort, Boolean, Byte, Short, Int, Reference, NoValue, field_sort}
+use Rattle.cjc_token_proof.specs.Script.Sorts.{Sort, Boolean, Byte, Short, Int, Reference, NoValue, field_sort}
 use Rattle.cjc_check_rules.specs.Listed.{array_bytes}
 use Rattle.cjc_world.specs.declared.image.ArrayCell.{ArrayCell}
 use Rattle.cjc_world.specs.declared.image.StaticImage.{StaticImage}

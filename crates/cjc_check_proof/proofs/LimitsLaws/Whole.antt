@@ -2,9 +2,9 @@
 use Rattle.std.proofs.Common.{◌≡◌, ℕ, ◌^◌, ◌<◌, ◌≤◌, refl, length, arith}
 use Rattle.std.specs.Prelude.{replicate}
 use Rattle.std.specs.List.{AllByRecursion}
-use Rattle.cjc_components.specs.CapWrite.Package.{directory_bytes}
-use Rattle.cjc_components.specs.CapWrite.Fits.{DirectoryFits, Fits2}
-use Rattle.cjc_components.specs.CapWrite.Writable.{IsWritable}
+use Rattle.cjc_pool.specs.CapWrite.Package.{directory_bytes}
+use Rattle.cjc_pool.specs.CapWrite.Fits.{DirectoryFits, Fits2}
+use Rattle.cjc_pool.specs.CapWrite.Writable.{IsWritable}
 use Rattle.cjc_components.proofs.CapWriteLengths.{directory_length}
 use Rattle.cjc_components.specs.Components.{components_of, directory_with, sizes}
 use Rattle.cjc_components.specs.Package.{Package}

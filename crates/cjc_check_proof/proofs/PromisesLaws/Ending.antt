@@ -4,13 +4,13 @@ use Rattle.std.proofs.Common.{◌++◌, length, append-nil}
 use Rattle.std.specs.Prelude.{Option, Some, None, flat_map, slice_get, ◌==◌, if◌then◌else◌, ℤ, pos}
 use Rattle.cjc_bytes.specs.declared.fault.MemberId.{MemberId}
 use Rattle.cjc_bytes.proofs.Gets.{get_inside}
-use Rattle.cjc_tokens.specs.ClassFile.Code.{CodeTree}
-use Rattle.cjc_tokens.specs.ClassFile.declared.tree.ClassTree.{ClassTree}
-use Rattle.cjc_tokens.specs.ClassFile.declared.tree.MethodTree.{MethodTree}
-use Rattle.cjc_ncode.specs.Bytecode.declared.insn.JInsn.{JInsn}
-use Rattle.cjc_ncode.specs.Bytecode.declared.insn.JOp.{JOp}
-use Rattle.cjc_ncode.specs.Bytecode.declared.insn.JOp.TheVariants as jop
-use Rattle.cjc_ncode.specs.Bytecode.declared.method_code.MethodCode.{MethodCode}
+use Rattle.cjc_world.specs.ClassFile.Code.{CodeTree}
+use Rattle.cjc_world.specs.ClassFile.declared.tree.ClassTree.{ClassTree}
+use Rattle.cjc_world.specs.ClassFile.declared.tree.MethodTree.{MethodTree}
+use Rattle.cjc_components.specs.Bytecode.declared.insn.JInsn.{JInsn}
+use Rattle.cjc_components.specs.Bytecode.declared.insn.JOp.{JOp}
+use Rattle.cjc_components.specs.Bytecode.declared.insn.JOp.TheVariants as jop
+use Rattle.cjc_components.specs.Bytecode.declared.method_code.MethodCode.{MethodCode}
 use Rattle.cjc_world.specs.Files.{Files}
 use Rattle.cjc_ncode.specs.declared.narrow.NCase.{NCase}
 use Rattle.cjc_ncode.specs.declared.narrow.NInsn.{NInsn}
@@ -18,13 +18,13 @@ use Rattle.cjc_ncode.specs.declared.narrow.NMethod.{NMethod}
 use Rattle.cjc_ncode.specs.Written.{leaving, low_of, pair_cases, place_in, reached, Resolution, switched, table_cases}
 use Rattle.cjc_ncode.specs.Written.{Access, accessed, is_load, narrow_method, on_this, written, written_for}
 use Rattle.cjc_ncode.proofs.WrittenCases.{written_cases}
-use Rattle.cjc_components.specs.Narrow.Rows.Resolved.{argument_words}
-use Rattle.cjc_components.specs.Narrow.Rows.Selected.{paired, selected_code}
-use Rattle.cjc_components.specs.Narrow.Written.Rows.{by_rows_there, has_rows, has_rows_by, rows_by}
-use Rattle.cjc_narrow_proof.specs.Types.declared.state.State.{State}
-use Rattle.cjc_narrow_proof.specs.Types.Flow.{body_of}
-use Rattle.cjc_narrow_proof.specs.Types.Steps.{goes_on}
-use Rattle.cjc_narrow_proof.specs.Types.Tables.{IsLeastTable, IsMethodOf}
+use Rattle.cjc_pool.specs.Narrow.Rows.Resolved.{argument_words}
+use Rattle.cjc_pool.specs.Narrow.Rows.Selected.{paired, selected_code}
+use Rattle.cjc_pool.specs.Narrow.Written.Rows.{by_rows_there, has_rows, has_rows_by, rows_by}
+use Rattle.cjc_pool.specs.Types.declared.state.State.{State}
+use Rattle.cjc_pool.specs.Types.Flow.{body_of}
+use Rattle.cjc_pool.specs.Types.Steps.{goes_on}
+use Rattle.cjc_pool.specs.Types.Tables.{IsLeastTable, IsMethodOf}
 use Rattle.cjc_narrow_proof.proofs.TypesStanding.{next_there}
 use Rattle.cjc_check_rules.specs.Instructions.{ends_code}
 use Rattle.cjc_check_proof.specs.Code.Ends.{last_ends}

@@ -4,19 +4,19 @@ use Rattle.std.specs.Prelude.{Option, Some, None, flat_map, nat_le, slice_get, â
 use Rattle.std.specs.Prelude.{negsuc}
 use Rattle.cjc_bytes.specs.declared.fault.MemberId.{MemberId}
 use Rattle.cjc_bytes.specs.AccessFlags.{is_private}
-use Rattle.cjc_ncode.specs.Script.Sorts.{Sort, Boolean, Byte, Short, Int, Reference, NoValue, Shape, OfClass}
-use Rattle.cjc_ncode.specs.Script.Sorts.{OfNumbers}
-use Rattle.cjc_ncode.specs.Script.Sorts.{OfReferences, Booleans, Bytes, Shorts, Ints, field_sort, shape_named}
-use Rattle.cjc_ncode.specs.CardSemantics.Bytecode.Meanings.{Meaning, Uses, meaning}
-use Rattle.cjc_narrow_proof.specs.Range.Words.{low_word}
-use Rattle.cjc_ncode.specs.Bytecode.declared.insn.JInsn.{JInsn}
-use Rattle.cjc_ncode.specs.Bytecode.declared.insn.JOp.{JOp}
-use Rattle.cjc_ncode.specs.Bytecode.declared.insn.JOp.TheVariants as jop
-use Rattle.cjc_tokens.specs.ClassFile.Code.{CodeTree}
-use Rattle.cjc_tokens.specs.ClassFile.declared.tree.ClassTree.{ClassTree}
-use Rattle.cjc_tokens.specs.ClassFile.declared.tree.MethodTree.{MethodTree}
+use Rattle.cjc_token_proof.specs.Script.Sorts.{Sort, Boolean, Byte, Short, Int, Reference, NoValue, Shape, OfClass}
+use Rattle.cjc_token_proof.specs.Script.Sorts.{OfNumbers}
+use Rattle.cjc_token_proof.specs.Script.Sorts.{OfReferences, Booleans, Bytes, Shorts, Ints, field_sort, shape_named}
+use Rattle.cjc_token_proof.specs.CardSemantics.Bytecode.Meanings.{Meaning, Uses, meaning}
+use Rattle.cjc_components.specs.Range.Words.{low_word}
+use Rattle.cjc_components.specs.Bytecode.declared.insn.JInsn.{JInsn}
+use Rattle.cjc_components.specs.Bytecode.declared.insn.JOp.{JOp}
+use Rattle.cjc_components.specs.Bytecode.declared.insn.JOp.TheVariants as jop
+use Rattle.cjc_world.specs.ClassFile.Code.{CodeTree}
+use Rattle.cjc_world.specs.ClassFile.declared.tree.ClassTree.{ClassTree}
+use Rattle.cjc_world.specs.ClassFile.declared.tree.MethodTree.{MethodTree}
 use Rattle.cjc_world.specs.Files.{Files}
-use Rattle.cjc_token_proof.specs.JvmSemantics.OnePackage.{ResolvedMember, is_constructor, of_class}
+use Rattle.cjc_pool.specs.JvmSemantics.OnePackage.{ResolvedMember, is_constructor, of_class}
 use Rattle.cjc_ncode.specs.declared.narrow.NCase.{NCase}
 use Rattle.cjc_ncode.specs.declared.narrow.NInsn.{NInsn}
 use Rattle.cjc_ncode.specs.declared.narrow.NInsn.TheVariants.{Op, Push, Local, Words, Named, Interface}
@@ -28,11 +28,11 @@ use Rattle.cjc_ncode.specs.Written.{place_in, reached, this_access, written, wri
 use Rattle.cjc_ncode.specs.declared.narrow.PairRole.{PairRole}
 use Rattle.cjc_ncode.proofs.WrittenCases.{written_cases}
 use Rattle.cjc_components.proofs.NarrowRoles.{written_as_same}
-use Rattle.cjc_components.specs.Narrow.Pairs.Roles.{role_in, roles_of, with_pairs}
-use Rattle.cjc_components.specs.Narrow.Rows.Resolved.{by_owner, resolution, special_by}
-use Rattle.cjc_components.specs.Narrow.Rows.Selected.{paired, selected_code}
-use Rattle.cjc_components.specs.Narrow.Written.Rows.{has_rows}
-use Rattle.cjc_narrow_proof.specs.Types.Flow.{body_of}
+use Rattle.cjc_pool.specs.Narrow.Pairs.Roles.{role_in, roles_of, with_pairs}
+use Rattle.cjc_pool.specs.Narrow.Rows.Resolved.{by_owner, resolution, special_by}
+use Rattle.cjc_pool.specs.Narrow.Rows.Selected.{paired, selected_code}
+use Rattle.cjc_pool.specs.Narrow.Written.Rows.{has_rows}
+use Rattle.cjc_pool.specs.Types.Flow.{body_of}
 use Rattle.cjc_check_proof.specs.Code.Kinds.{HasKind, is_for}
 
 AllKind : List NInsn â†’ Type 0

@@ -5,10 +5,10 @@ use Rattle.cjc_world.specs.Files.{Files}
 use Rattle.cjc_ncode.specs.declared.narrow.NInsn.{NInsn}
 use Rattle.cjc_ncode.specs.declared.narrow.NMethod.{NMethod}
 use Rattle.cjc_ncode.specs.Lowering.Naming.{Naming}
-use Rattle.cjc_components.specs.Narrow.Written.Rows.{has_rows, rows_by}
-use Rattle.cjc_components.specs.Layout.Handlers.{AllLie}
-use Rattle.cjc_components.specs.Layout.Sizes.{AllLead}
-use Rattle.cjc_components.specs.Emit.Emitted.{CanBeWritten, placed_at}
+use Rattle.cjc_pool.specs.Narrow.Written.Rows.{has_rows, rows_by}
+use Rattle.cjc_pool.specs.Layout.Handlers.{AllLie}
+use Rattle.cjc_pool.specs.Layout.Sizes.{AllLead}
+use Rattle.cjc_pool.specs.Emit.Emitted.{CanBeWritten, placed_at}
 use Rattle.cjc_narrow_proof.proofs.SelectedLaws.Whole.{selected_whole}
 use Rattle.cjc_components.specs.Package.{LaidMethod}
 use Rattle.cjc_check_proof.specs.Code.Caught.{HandlersLie}

@@ -3,9 +3,9 @@ use Rattle.std.proofs.Common.{◌≡◌, ℕ, zero, suc, sym, subst, true, List,
 use Rattle.std.specs.Prelude.{slice_get, Some}
 use Rattle.cjc_ncode.specs.declared.narrow.NInsn.{NInsn}
 use Rattle.cjc_ncode.specs.Lowering.Naming.{Naming}
-use Rattle.cjc_components.specs.Layout.Legal.{IsLeast}
-use Rattle.cjc_components.specs.Layout.Sizes.{AllLead}
-use Rattle.cjc_components.specs.Emit.Emitted.{CanBeWritten, placed_at}
+use Rattle.cjc_pool.specs.Layout.Legal.{IsLeast}
+use Rattle.cjc_pool.specs.Layout.Sizes.{AllLead}
+use Rattle.cjc_pool.specs.Emit.Emitted.{CanBeWritten, placed_at}
 use Rattle.cjc_components.specs.Package.{LaidMethod}
 use Rattle.cjc_check_proof.specs.Code.Ends.{is_abstract, StaysInside}
 use Rattle.cjc_check_proof.specs.Code.Kinds.{HasKind}

@@ -1,24 +1,24 @@
 -- A method that is written by the rows of its least table is made as a package's methods are.
 use Rattle.std.proofs.Common.{◌≡◌, ◌<◌, sym, ap, ◌∙◌, List, length, Option, Some, None, Ok}
 use Rattle.cjc_bytes.specs.declared.fault.MemberId.{MemberId}
-use Rattle.cjc_tokens.specs.ClassFile.Code.{CodeTree}
-use Rattle.cjc_tokens.specs.ClassFile.declared.tree.ClassTree.{ClassTree}
-use Rattle.cjc_tokens.specs.ClassFile.declared.tree.MethodTree.{MethodTree}
-use Rattle.cjc_ncode.specs.Bytecode.Decoded.{decoded, decoding, insns_of, of_code, of_method}
-use Rattle.cjc_ncode.specs.Bytecode.declared.method_code.MethodCode.{MethodCode}
+use Rattle.cjc_world.specs.ClassFile.Code.{CodeTree}
+use Rattle.cjc_world.specs.ClassFile.declared.tree.ClassTree.{ClassTree}
+use Rattle.cjc_world.specs.ClassFile.declared.tree.MethodTree.{MethodTree}
+use Rattle.cjc_components.specs.Bytecode.Decoded.{decoded, decoding, insns_of, of_code, of_method}
+use Rattle.cjc_components.specs.Bytecode.declared.method_code.MethodCode.{MethodCode}
 use Rattle.cjc_world.specs.Files.{Files}
-use Rattle.cjc_token_proof.specs.JvmSemantics.Linked.{Method}
-use Rattle.cjc_token_proof.specs.JvmSemantics.OnePackage.{method_at, method_by}
+use Rattle.cjc_pool.specs.JvmSemantics.Linked.{Method}
+use Rattle.cjc_pool.specs.JvmSemantics.OnePackage.{method_at, method_by}
 use Rattle.cjc_ncode.specs.declared.narrow.NMethod.{NMethod}
 use Rattle.cjc_ncode.specs.Lowering.Naming.{Naming}
-use Rattle.cjc_components.specs.Narrow.Rows.Resolved.{argument_words}
-use Rattle.cjc_components.specs.Narrow.Rows.Selected.{paired, selected_code}
+use Rattle.cjc_pool.specs.Narrow.Rows.Resolved.{argument_words}
+use Rattle.cjc_pool.specs.Narrow.Rows.Selected.{paired, selected_code}
 use Rattle.cjc_ncode.specs.Written.{narrow_method}
-use Rattle.cjc_components.specs.Narrow.Written.Rows.{by_rows_there, has_rows, has_rows_by, rows_by}
-use Rattle.cjc_narrow_proof.specs.Types.declared.state.State.{State}
-use Rattle.cjc_narrow_proof.specs.Types.Flow.{body_of}
-use Rattle.cjc_narrow_proof.specs.Types.Tables.{IsLeastTable, IsMethodOf}
-use Rattle.cjc_components.specs.Emit.Emitted.{CanBeWritten, placed_at}
+use Rattle.cjc_pool.specs.Narrow.Written.Rows.{by_rows_there, has_rows, has_rows_by, rows_by}
+use Rattle.cjc_pool.specs.Types.declared.state.State.{State}
+use Rattle.cjc_pool.specs.Types.Flow.{body_of}
+use Rattle.cjc_pool.specs.Types.Tables.{IsLeastTable, IsMethodOf}
+use Rattle.cjc_pool.specs.Emit.Emitted.{CanBeWritten, placed_at}
 use Rattle.cjc_narrow_proof.specs.Selected.Keeps.{FindsItself}
 use Rattle.cjc_narrow_proof.proofs.SelectedLaws.Run.{same_code}
 use Rattle.cjc_components.specs.Package.{LaidMethod}

@@ -6,7 +6,7 @@ use Rattle.std.specs.List.{AllByRecursion, find}
 use Rattle.std.proofs.lemmas.Bool.Decides.{nat_tests}
 use Rattle.cjc_bytes.specs.AccessFlags.{is_interface}
 use Rattle.cjc_bytes.specs.declared.fault.MemberId.{MemberId}
-use Rattle.cjc_token_proof.specs.JvmSemantics.OnePackage.{of_class}
+use Rattle.cjc_pool.specs.JvmSemantics.OnePackage.{of_class}
 use Rattle.cjc_token_proof.specs.Calls.Selecting.{signature}
 use Rattle.cjc_check_rules.specs.Spots.{item_at, placed, starts}
 use Rattle.cjc_check_rules.specs.Complete.{class_size}

@@ -11,12 +11,12 @@ use Rattle.cjc_bytes.proofs.Bools.{and_true}
 use Rattle.cjc_bytes.proofs.Lists.{bytes_true}
 use Rattle.cjc_bytes.proofs.Numbers.{like_number}
 use Rattle.cjc_capread.specs.declared.tree.ClassRef.TheVariants.{Outside}
-use Rattle.cjc_tokens.specs.ExportFile.declared.tree.ExportClass.{ExportClass}
-use Rattle.cjc_tokens.specs.ExportFile.declared.tree.ExportMethod.{ExportMethod}
-use Rattle.cjc_tokens.specs.ExportFile.Supers.{IsAtOrAbove, above, at, classes_of, has_virtual, inherits_virtual}
-use Rattle.cjc_tokens.specs.ExportFile.Supers.{is_one_of}
-use Rattle.cjc_tokens.specs.ExportFile.Supers.{lists_virtual, upwards}
-use Rattle.cjc_tokens.specs.ExportFile.Supers as exports
+use Rattle.cjc_world.specs.ExportFile.declared.tree.ExportClass.{ExportClass}
+use Rattle.cjc_world.specs.ExportFile.declared.tree.ExportMethod.{ExportMethod}
+use Rattle.cjc_world.specs.ExportFile.Supers.{IsAtOrAbove, above, at, classes_of, has_virtual, inherits_virtual}
+use Rattle.cjc_world.specs.ExportFile.Supers.{is_one_of}
+use Rattle.cjc_world.specs.ExportFile.Supers.{lists_virtual, upwards}
+use Rattle.cjc_world.specs.ExportFile.Supers as exports
 use Rattle.cjc_world.proofs.ExportFileUpwards.{all_found, each_own}
 use Rattle.cjc_check_rules.specs.Members.{class_has, in_imported}
 use Rattle.cjc_world.specs.declared.found.Found.{Found}

@@ -4,17 +4,17 @@ use Rattle.std.specs.Prelude.{is_some, ◌+◌, sum_by}
 use Rattle.std.specs.List.{list_all}
 use Rattle.cjc_bytes.specs.AccessFlags.{is_interface}
 use Rattle.cjc_bytes.specs.declared.settings.AppletLine.{AppletLine}
-use Rattle.cjc_tokens.specs.ExportFile.declared.tree.ExportClass.{ExportClass}
-use Rattle.cjc_vtable.specs.Subset.Applets.{is_unfit_applet}
-use Rattle.cjc_ncode.specs.Script.Sorts.{Shape, OfClass, OfNumbers, OfReferences, Sort, Boolean, Byte, Short, Int}
-use Rattle.cjc_ncode.specs.Script.Sorts.{Reference}
-use Rattle.cjc_ncode.specs.Script.Sorts.{NoValue, Signature, field_sort, signature_of}
+use Rattle.cjc_world.specs.ExportFile.declared.tree.ExportClass.{ExportClass}
+use Rattle.cjc_pool.specs.Subset.Applets.{is_unfit_applet}
+use Rattle.cjc_token_proof.specs.Script.Sorts.{Shape, OfClass, OfNumbers, OfReferences, Sort, Boolean, Byte, Short, Int}
+use Rattle.cjc_token_proof.specs.Script.Sorts.{Reference}
+use Rattle.cjc_token_proof.specs.Script.Sorts.{NoValue, Signature, field_sort, signature_of}
 use Rattle.cjc_check_rules.specs.Complete.{class_info_size}
 use Rattle.cjc_world.specs.Classes.{Class, Member, class_named, imported}
 use Rattle.cjc_tokens.specs.Methods.{interface_methods, is_open_bound}
 use Rattle.cjc_ncode.specs.declared.narrow.PoolKey.{PoolKey}
 use Rattle.cjc_ncode.specs.declared.narrow.PoolKey.TheVariants as keys
-use Rattle.cjc_components.specs.CapWrite.Files.{ends_too_far}
+use Rattle.cjc_pool.specs.CapWrite.Files.{ends_too_far}
 use Rattle.cjc_components.specs.Package.{Package, pool, world}
 use Rattle.cjc_components.specs.Class.{class_info}
 use Rattle.cjc_components.specs.Methods.{first_method, method_size}

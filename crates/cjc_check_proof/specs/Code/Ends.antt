@@ -3,7 +3,7 @@ use Rattle.std.specs.Prelude.{◌≡◌, ℕ, List, [], ◌∷◌, length, slice
 use Rattle.cjc_check_rules.specs.Instructions.{ends_code}
 use Rattle.cjc_ncode.specs.declared.narrow.NInsn.{NInsn}
 use Rattle.cjc_ncode.specs.declared.narrow.NInsn.TheVariants as insns
-use Rattle.cjc_components.specs.Layout.Sizes.{AllLead}
+use Rattle.cjc_pool.specs.Layout.Sizes.{AllLead}
 use Rattle.cjc_components.specs.Package.{LaidMethod}
 use Rattle.cjc_capread.specs.Card as card
 

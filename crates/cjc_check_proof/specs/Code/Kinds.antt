@@ -1,8 +1,8 @@
 -- Which kind of key each opcode of narrow code needs.
 use Rattle.std.specs.Prelude.{◌≡◌, ℕ, List, slice_get, Some, Bool, true, false}
-use Rattle.cjc_ncode.specs.CardSemantics.Bytecode.Meanings.{Use, Gets, Puts, GetsStatic, PutsStatic, Calls, Makes}
-use Rattle.cjc_ncode.specs.CardSemantics.Bytecode.Meanings.{MakesReferences, Virtual, Special, Static, Uses}
-use Rattle.cjc_ncode.specs.CardSemantics.Bytecode.Meanings.{meaning}
+use Rattle.cjc_token_proof.specs.CardSemantics.Bytecode.Meanings.{Use, Gets, Puts, GetsStatic, PutsStatic, Calls, Makes}
+use Rattle.cjc_token_proof.specs.CardSemantics.Bytecode.Meanings.{MakesReferences, Virtual, Special, Static, Uses}
+use Rattle.cjc_token_proof.specs.CardSemantics.Bytecode.Meanings.{meaning}
 use Rattle.cjc_ncode.specs.declared.narrow.NInsn.{NInsn}
 use Rattle.cjc_ncode.specs.declared.narrow.NInsn.TheVariants as insns
 use Rattle.cjc_ncode.specs.declared.narrow.PoolKey.{PoolKey}

@@ -4,16 +4,16 @@ use Rattle.std.specs.Prelude.{true, false}
 use Rattle.std.specs.List.{AllByRecursion, find, list_any}
 use Rattle.cjc_bytes.specs.declared.fault.MemberId.{MemberId}
 use Rattle.cjc_bytes.specs.AccessFlags.{is_interface, is_static}
-use Rattle.cjc_tokens.specs.ClassFile.declared.tree.FieldTree.{FieldTree}
-use Rattle.cjc_ncode.specs.CardSemantics.Machine.Classes.{External}
-use Rattle.cjc_tokens.specs.ExportFile.declared.tree.ExportClass.{ExportClass}
-use Rattle.cjc_tokens.specs.ExportFile.declared.tree.ExportField.{ExportField}
-use Rattle.cjc_tokens.specs.ExportFile.declared.tree.ExportMethod.{ExportMethod}
-use Rattle.cjc_tokens.specs.ExportFile.declared.tree.ExportTree.{ExportTree}
-use Rattle.cjc_tokens.specs.ExportFile.Supers.{is_virtual}
+use Rattle.cjc_world.specs.ClassFile.declared.tree.FieldTree.{FieldTree}
+use Rattle.cjc_token_proof.specs.CardSemantics.Machine.Classes.{External}
+use Rattle.cjc_world.specs.ExportFile.declared.tree.ExportClass.{ExportClass}
+use Rattle.cjc_world.specs.ExportFile.declared.tree.ExportField.{ExportField}
+use Rattle.cjc_world.specs.ExportFile.declared.tree.ExportMethod.{ExportMethod}
+use Rattle.cjc_world.specs.ExportFile.declared.tree.ExportTree.{ExportTree}
+use Rattle.cjc_world.specs.ExportFile.Supers.{is_virtual}
 use Rattle.cjc_check_rules.specs.Members.{is_unbound}
 use Rattle.cjc_check_rules.specs.PoolEntries.{names_member}
-use Rattle.cjc_components.specs.Clinit.Image.{field_id}
+use Rattle.cjc_pool.specs.Clinit.Image.{field_id}
 use Rattle.cjc_tokens.specs.Fields.{is_constant}
 use Rattle.cjc_tokens.specs.Members.{is_initialiser}
 use Rattle.cjc_world.specs.declared.found.Found.{Found}

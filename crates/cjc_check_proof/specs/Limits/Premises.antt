@@ -4,17 +4,17 @@ use Rattle.std.specs.Prelude.{◌≡◌, ◌≤◌, ℕ, [], false, length, slic
 use Rattle.std.specs.List.{AllByRecursion}
 use Rattle.cjc_bytes.specs.AccessFlags.{is_interface}
 use Rattle.cjc_bytes.specs.declared.settings.AppletLine.{AppletLine}
-use Rattle.cjc_tokens.specs.ExportFile.declared.tree.ExportTree.{ExportTree}
-use Rattle.cjc_tokens.specs.ExportFile.Writable.{IsWritable}
-use Rattle.cjc_components.specs.List.Listed.{ListTree}
+use Rattle.cjc_world.specs.ExportFile.declared.tree.ExportTree.{ExportTree}
+use Rattle.cjc_world.specs.ExportFile.Writable.{IsWritable}
+use Rattle.cjc_pool.specs.List.Listed.{ListTree}
 use Rattle.cjc_world.specs.Classes.{Class}
 use Rattle.cjc_world.specs.Order.{class_order}
 use Rattle.cjc_tokens.specs.Fields.{is_open_static}
 use Rattle.cjc_vtable.specs.declared.table.InterfaceMap.{InterfaceMap}
 use Rattle.cjc_vtable.specs.Tables.{table_of}
 use Rattle.cjc_ncode.specs.declared.narrow.NInsn.{NInsn}
-use Rattle.cjc_components.specs.Layout.Forms.{HasForm}
-use Rattle.cjc_components.specs.Layout.Sizes.{widest_size}
+use Rattle.cjc_pool.specs.Layout.Forms.{HasForm}
+use Rattle.cjc_pool.specs.Layout.Sizes.{widest_size}
 use Rattle.cjc_components.specs.Package.{LaidMethod, Package, world}
 use Rattle.cjc_components.specs.Class.{fields_of, interfaces_of}
 use Rattle.cjc_components.specs.Descriptor.{fields_from}

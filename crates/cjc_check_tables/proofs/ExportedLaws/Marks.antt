@@ -4,7 +4,7 @@ use Rattle.std.proofs.Common.{refl, sym, ap, ◌∙◌, arith, Option, Some, Non
 use Rattle.std.specs.Prelude.{◌&&◌, ◌||◌, slice_get}
 use Rattle.std.specs.List.{list_any, find}
 use Rattle.std.proofs.lemmas.List.{drop_all}
-use Rattle.cjc_check_rules.specs.Bytes.AccessFlags.{is_static}
+use Rattle.cjc_capread.specs.Bytes.AccessFlags.{is_static}
 use Rattle.cjc_capread.specs.ClassRefs.{is_inside}
 use Rattle.cjc_capread.specs.declared.tree.ClassDescriptor.{ClassDescriptor}
 use Rattle.cjc_capread.specs.declared.tree.ExportedClass.{ExportedClass}

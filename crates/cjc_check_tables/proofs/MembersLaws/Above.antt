@@ -14,7 +14,7 @@ use Rattle.cjc_capread.specs.declared.tree.ClassEntry.{ClassEntry}
 use Rattle.cjc_capread.specs.declared.tree.ClassInfo.{ClassInfo}
 use Rattle.cjc_capread.specs.declared.tree.ClassRef.{ClassRef}
 use Rattle.cjc_capread.specs.declared.tree.ClassRef.TheVariants.{Inside, Outside}
-use Rattle.cjc_check_rules.specs.LowerExportFile.declared.tree.ExportTree.{ExportTree}
+use Rattle.cjc_check_rules.specs.ExportFile.declared.tree.ExportTree.{ExportTree}
 use Rattle.cjc_check_rules.specs.Spots.{Placed, starts}
 use Rattle.cjc_check_rules.specs.Classes.{classes_at, first_class}
 use Rattle.cjc_check_rules.specs.Complete.{class_size}

@@ -1,6 +1,6 @@
 -- The first places of the sentences on what components name by token.
 use Rattle.std.specs.Prelude.{◌≡◌, List}
-use Rattle.cjc_check_rules.specs.LowerExportFile.declared.tree.ExportTree.{ExportTree}
+use Rattle.cjc_check_rules.specs.ExportFile.declared.tree.ExportTree.{ExportTree}
 use Rattle.cjc_check_tables.specs.declared.members.spots.MemberSpots.{MemberSpots}
 use Rattle.cjc_check_rules.specs.Spots.{first}
 use Rattle.cjc_check_rules.specs.Complete.{Complete}

@@ -5,7 +5,7 @@ ghost use Rattle.std.specs.List.{list_any};
 ghost use Rattle.cjc_check_rules.specs.Complete.{method_size};
 ghost use Rattle.cjc_check_rules.specs.Handlers.{meet, stop_spots, stops_from};
 ghost use Rattle.cjc_check_rules.specs.Spots.{first, in_info, unless};
-ghost use Rattle.cjc_check_rules.specs.LowerExportFile.Members.{same_bool};
+ghost use Rattle.cjc_check_rules.specs.ExportFile.Members.{same_bool};
 
 use cjc_capread::{Handler, Method};
 use cjc_check_index::lookup::{earlier, same_bool, unless};

@@ -2,10 +2,10 @@
 //! 6.3). It knows no other component.
 
 ghost use Rattle.std.specs.Prelude.{◌≡◌, ◌&&◌, is_some};
-ghost use Rattle.cjc_check_rules.specs.Bytes.AccessFlags.{has};
+ghost use Rattle.cjc_capread.specs.Bytes.AccessFlags.{has};
 ghost use Rattle.cjc_check_rules.specs.Listed.{acc_applet, acc_export, flags_spots};
 ghost use Rattle.cjc_check_rules.specs.Spots.{first};
-ghost use Rattle.cjc_check_rules.specs.LowerExportFile.Members.{same_bool};
+ghost use Rattle.cjc_check_rules.specs.ExportFile.Members.{same_bool};
 
 use cjc_capread::CapTree;
 use cjc_capread::bytes::has;

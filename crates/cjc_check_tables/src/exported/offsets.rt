@@ -16,7 +16,7 @@ ghost use Rattle.cjc_check_rules.specs.Complete.{AreSmall, exported_size};
 ghost use Rattle.cjc_check_rules.specs.Exports.{export_spots, in_exported};
 ghost use Rattle.cjc_check_rules.specs.Members.{is_cell_at, is_constructor, is_method_start};
 ghost use Rattle.cjc_check_rules.specs.Spots.{first, in_info, numbered, unless};
-ghost use Rattle.cjc_check_rules.specs.Bytes.AccessFlags.{is_static};
+ghost use Rattle.cjc_capread.specs.Bytes.AccessFlags.{is_static};
 
 use cjc_capread::bytes::{NoMemory, Row, has, is_static};
 use cjc_capread::{

@@ -3,9 +3,9 @@ use Rattle.std.proofs.Common.{◌≡◌, ℕ, ◌+◌, ◌<◌, ◌≤◌, cond,
 use Rattle.std.proofs.Common.{List, length, get_or, drop}
 use Rattle.std.specs.Prelude.{if◌then◌else◌, Option, Some, None, option_map}
 use Rattle.std.specs.Str.{bytes_eq}
-use Rattle.cjc_components.specs.CapRead.declared.tree.ClassRef.{ClassRef}
-use Rattle.cjc_components.specs.CapRead.declared.tree.ClassRef.TheVariants.{Inside, Outside}
-use Rattle.cjc_components.specs.CardSemantics.Machine.Classes.{Class, External, or_else}
+use Rattle.cjc_components.specs.LowerCapRead.declared.tree.ClassRef.{ClassRef}
+use Rattle.cjc_components.specs.LowerCapRead.declared.tree.ClassRef.TheVariants.{Inside, Outside}
+use Rattle.cjc_components.specs.LowerCardSemantics.Machine.Classes.{Class, External, or_else}
 use Rattle.cjc_components.specs.Names.{ref_to}
 use Rattle.cjc_classes.specs.ClassInfo.Infos.{end_of, spot_in}
 use Rattle.cjc_bytes.proofs.Gets.{drop_next, drop_past}

@@ -6,7 +6,7 @@ use Rattle.std.specs.Str.{bytes_eq}
 use Rattle.cjc_world.specs.Classes.{Class}
 use Rattle.cjc_world.specs.Supertypes.{supertypes}
 use Rattle.cjc_world.specs.Interfaces.{Interface, each_once, gathered, is_among}
-use Rattle.cjc_components.specs.ClassOrder.Supers.Supers.{interfaces, name_of}
+use Rattle.cjc_components.specs.LowerClassOrder.Supers.Supers.{interfaces, name_of}
 use Rattle.cjc_tokens.specs.Methods.{interfaces_at}
 
 among_names : (is : List Interface) (name : List ℕ) → is_among is name ≡ list_any (λ x. bytes_eq x name)

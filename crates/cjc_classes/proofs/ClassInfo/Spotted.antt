@@ -6,27 +6,27 @@ use Rattle.std.specs.Prelude.{slice_get, sum_by}
 use Rattle.std.specs.Str.{bytes_eq}
 use Rattle.std.proofs.lemmas.List.{length-map}
 use Rattle.std.proofs.lemmas.List.Sums.{sum_by-cons}
-use Rattle.cjc_components.specs.CapRead.declared.tree.ClassRef.{ClassRef}
-use Rattle.cjc_components.specs.CapRead.declared.tree.ClassRef.TheVariants.{Inside}
-use Rattle.cjc_components.specs.CapRead.declared.tree.InterfaceEntry.{InterfaceEntry}
-use Rattle.cjc_components.specs.CapRead.declared.tree.ClassEntry.{ClassEntry}
-use Rattle.cjc_components.specs.CheckRules.Spots.{placed, starts}
-use Rattle.cjc_components.specs.CheckRules.Complete.{class_size, interface_size, map_size}
-use Rattle.cjc_components.specs.CardSemantics.Machine.Classes.{Class as CardClass, Own, External, external_from}
-use Rattle.cjc_components.specs.CardSemantics.Machine.Classes.{or_else}
-use Rattle.cjc_tokens.specs.ClassFile.declared.tree.ClassTree.{ClassTree}
+use Rattle.cjc_components.specs.LowerCapRead.declared.tree.ClassRef.{ClassRef}
+use Rattle.cjc_components.specs.LowerCapRead.declared.tree.ClassRef.TheVariants.{Inside}
+use Rattle.cjc_components.specs.LowerCapRead.declared.tree.InterfaceEntry.{InterfaceEntry}
+use Rattle.cjc_components.specs.LowerCapRead.declared.tree.ClassEntry.{ClassEntry}
+use Rattle.cjc_components.specs.LowerCheckRules.Spots.{placed, starts}
+use Rattle.cjc_components.specs.LowerCheckRules.Complete.{class_size, interface_size, map_size}
+use Rattle.cjc_components.specs.LowerCardSemantics.Machine.Classes.{Class as CardClass, Own, External, external_from}
+use Rattle.cjc_components.specs.LowerCardSemantics.Machine.Classes.{or_else}
+use Rattle.cjc_world.specs.ClassFile.declared.tree.ClassTree.{ClassTree}
 use Rattle.cjc_world.specs.Files.{Files}
 use Rattle.cjc_world.specs.Classes.{Class, all_classes}
 use Rattle.cjc_world.specs.Order.{class_order, in_order}
 use Rattle.cjc_tokens.proofs.Facts.{position-cons}
-use Rattle.cjc_components.specs.VTable.declared.table.ClassTable.{ClassTable}
-use Rattle.cjc_components.specs.VTable.declared.table.InterfaceMap.{InterfaceMap}
-use Rattle.cjc_components.specs.VTable.Tables.{class_tables, table_of}
+use Rattle.cjc_components.specs.LowerVTable.declared.table.ClassTable.{ClassTable}
+use Rattle.cjc_components.specs.LowerVTable.declared.table.InterfaceMap.{InterfaceMap}
+use Rattle.cjc_components.specs.LowerVTable.Tables.{class_tables, table_of}
 use Rattle.cjc_components.specs.Package.{Package, world}
 use Rattle.cjc_components.specs.Class.{class_entry, implemented, interface_entry, interfaces_of, table_entry}
 use Rattle.cjc_components.specs.Methods.{method_offset}
 use Rattle.cjc_components.specs.Names.{class_offset, ref_to}
-use Rattle.cjc_components.specs.ClassOrder.Classes.Numbers.{declared_at}
+use Rattle.cjc_components.specs.LowerClassOrder.Classes.Numbers.{declared_at}
 use Rattle.cjc_classes.specs.declared.class_info.refs.ClassRefs.{ClassRefs}
 use Rattle.cjc_classes.specs.ClassInfo.Refs.{AreRefs, ref_in, ref_of}
 use Rattle.cjc_classes.specs.ClassInfo.Infos.{bytes_at, bytes_of, end_of, interface_bytes, is_named, map_bytes}

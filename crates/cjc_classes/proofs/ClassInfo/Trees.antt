@@ -2,29 +2,29 @@
 use Rattle.std.proofs.Common.{◌≡◌, ℕ, refl, sym, ap, subst, ◌∙◌, true, false, List, [], ◌∷◌, ◌++◌, map}
 use Rattle.std.specs.Prelude.{Option, Some, None, option_map, option_to_list, slice_get}
 use Rattle.std.proofs.lemmas.List.{map-append}
-use Rattle.cjc_components.specs.CapRead.declared.tree.ClassRef.{ClassRef}
-use Rattle.cjc_components.specs.CapRead.declared.tree.ClassEntry.{ClassEntry}
-use Rattle.cjc_components.specs.CapRead.declared.tree.ClassInfo.{ClassInfo}
-use Rattle.cjc_components.specs.CapRead.declared.tree.InterfaceEntry.{InterfaceEntry}
-use Rattle.cjc_components.specs.CapRead.declared.tree.ImplementedInterface.{ImplementedInterface}
-use Rattle.cjc_tokens.specs.ClassFile.declared.tree.ClassTree.{ClassTree}
-use Rattle.cjc_tokens.specs.ClassFile.declared.tree.FieldTree.{FieldTree}
+use Rattle.cjc_components.specs.LowerCapRead.declared.tree.ClassRef.{ClassRef}
+use Rattle.cjc_components.specs.LowerCapRead.declared.tree.ClassEntry.{ClassEntry}
+use Rattle.cjc_components.specs.LowerCapRead.declared.tree.ClassInfo.{ClassInfo}
+use Rattle.cjc_components.specs.LowerCapRead.declared.tree.InterfaceEntry.{InterfaceEntry}
+use Rattle.cjc_components.specs.LowerCapRead.declared.tree.ImplementedInterface.{ImplementedInterface}
+use Rattle.cjc_world.specs.ClassFile.declared.tree.ClassTree.{ClassTree}
+use Rattle.cjc_world.specs.ClassFile.declared.tree.FieldTree.{FieldTree}
 use Rattle.cjc_world.specs.declared.found.Found.{Found}
 use Rattle.cjc_world.specs.Files.{Files}
 use Rattle.cjc_world.specs.Classes.{Class, all_classes, declared}
 use Rattle.cjc_world.specs.Order.{in_order}
 use Rattle.cjc_world.specs.Working.Places.{at_places}
 use Rattle.cjc_tokens.specs.Fields.{instance_cells}
-use Rattle.cjc_components.specs.VTable.declared.table.ClassTable.{ClassTable}
-use Rattle.cjc_components.specs.VTable.declared.table.InterfaceMap.{InterfaceMap}
-use Rattle.cjc_components.specs.VTable.Tables.{class_tables, table_of}
+use Rattle.cjc_components.specs.LowerVTable.declared.table.ClassTable.{ClassTable}
+use Rattle.cjc_components.specs.LowerVTable.declared.table.InterfaceMap.{InterfaceMap}
+use Rattle.cjc_components.specs.LowerVTable.Tables.{class_tables, table_of}
 use Rattle.cjc_components.specs.Package.{Package, world}
 use Rattle.cjc_components.specs.Methods.{method_offset}
 use Rattle.cjc_components.specs.Class.{class_entry, class_info, fields_in, first_reference_token, implemented}
 use Rattle.cjc_components.specs.Class.{info_flags, interface_entry, interfaces_of, reference_count, superclass}
 use Rattle.cjc_components.specs.Class.{table_entry}
 use Rattle.cjc_components.specs.Names.{class_ref}
-use Rattle.cjc_components.specs.ClassOrder.Classes.Numbers.{declared_at}
+use Rattle.cjc_components.specs.LowerClassOrder.Classes.Numbers.{declared_at}
 use Rattle.cjc_classes.specs.declared.class_info.refs.ClassRefs.{ClassRefs}
 use Rattle.cjc_classes.specs.ClassInfo.Refs.{AreRefs, ref_of}
 use Rattle.cjc_classes.specs.ClassInfo.Entries.{AreOffsets, entries_by, entry_by, entry_by_offset, entry_where}

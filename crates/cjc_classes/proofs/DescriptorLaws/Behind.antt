@@ -5,7 +5,7 @@ use Rattle.std.specs.Prelude.{if◌then◌else◌, unwrap_or}
 use Rattle.std.specs.Map.{lookup}
 use Rattle.std.proofs.lemmas.List.{drop_more, drop_all}
 use Rattle.cjc_bytes.specs.declared.fault.MemberId.{MemberId}
-use Rattle.cjc_components.specs.NCode.PoolOrder.{same_member}
+use Rattle.cjc_components.specs.LowerNCode.PoolOrder.{same_member}
 use Rattle.cjc_components.specs.Statics.{offset_from, size_of_field}
 use Rattle.cjc_classes.specs.Descriptor.Working.Cells.{HasCell, Placed, StandBehind, found, offset_before, offset_of}
 use Rattle.cjc_classes.specs.Descriptor.Working.Cells.{or_else}

@@ -8,21 +8,21 @@ use Rattle.std.proofs.lemmas.List.{map-append, length-map}
 use Rattle.std.proofs.lemmas.List.Concat.{flat_map_single}
 use Rattle.std.proofs.lemmas.Option.{slice_get-map, slice_get_within}
 use Rattle.cjc_bytes.specs.AccessFlags.{is_static}
-use Rattle.cjc_components.specs.CapRead.declared.tree.ClassDescriptor.{ClassDescriptor}
-use Rattle.cjc_components.specs.CapRead.declared.tree.TypeDescriptor.{TypeDescriptor}
-use Rattle.cjc_components.specs.CapRead.declared.tree.FieldPlace.TheVariants as places
-use Rattle.cjc_components.specs.Script.Sorts.{Sort, Boolean, Byte, Short, Int, Reference, NoValue, field_sort}
-use Rattle.cjc_tokens.specs.ClassFile.declared.tree.ClassTree.{ClassTree}
-use Rattle.cjc_tokens.specs.ClassFile.declared.tree.FieldTree.{FieldTree}
-use Rattle.cjc_tokens.specs.ClassFile.declared.tree.MethodTree.{MethodTree}
+use Rattle.cjc_components.specs.LowerCapRead.declared.tree.ClassDescriptor.{ClassDescriptor}
+use Rattle.cjc_components.specs.LowerCapRead.declared.tree.TypeDescriptor.{TypeDescriptor}
+use Rattle.cjc_components.specs.LowerCapRead.declared.tree.FieldPlace.TheVariants as places
+use Rattle.cjc_components.specs.LowerScript.Sorts.{Sort, Boolean, Byte, Short, Int, Reference, NoValue, field_sort}
+use Rattle.cjc_world.specs.ClassFile.declared.tree.ClassTree.{ClassTree}
+use Rattle.cjc_world.specs.ClassFile.declared.tree.FieldTree.{FieldTree}
+use Rattle.cjc_world.specs.ClassFile.declared.tree.MethodTree.{MethodTree}
 use Rattle.cjc_world.specs.Files.{Files}
 use Rattle.cjc_world.specs.Classes.{Member, declared, field_of_class, method_of_class}
 use Rattle.cjc_world.specs.Added.{added, named_by}
 use Rattle.cjc_world.specs.Lookup.{member_at}
 use Rattle.cjc_world.specs.Order.{class_order, methods_of_class, places, written}
 use Rattle.cjc_tokens.specs.Fields.{is_constant}
-use Rattle.cjc_components.specs.Clinit.Image.{field_id}
-use Rattle.cjc_components.specs.NCode.declared.narrow.PoolKey.{PoolKey}
+use Rattle.cjc_components.specs.LowerClinit.Image.{field_id}
+use Rattle.cjc_components.specs.LowerNCode.declared.narrow.PoolKey.{PoolKey}
 use Rattle.cjc_components.specs.Class.{fields_in}
 use Rattle.cjc_components.specs.Package.{Package, pool, tokens, world}
 use Rattle.cjc_components.specs.Methods.{extent_of}

@@ -4,8 +4,8 @@ use Rattle.std.proofs.Common.{◌∙◌, arith, append_assoc, append-nil, None}
 use Rattle.std.proofs.lemmas.List.{drop_more, drop_all, map-append}
 use Rattle.cjc_world.specs.Classes.{Class}
 use Rattle.cjc_world.specs.Working.Places.{at_places}
-use Rattle.cjc_components.specs.CapRead.declared.tree.ClassRef.{ClassRef}
-use Rattle.cjc_components.specs.CapRead.declared.tree.ClassDescriptor.{ClassDescriptor}
+use Rattle.cjc_components.specs.LowerCapRead.declared.tree.ClassRef.{ClassRef}
+use Rattle.cjc_components.specs.LowerCapRead.declared.tree.ClassDescriptor.{ClassDescriptor}
 use Rattle.cjc_classes.specs.Descriptor.Working.Described.{Inputs, class_in, class_where, classes_at, each_from}
 
 -- by their places

@@ -7,8 +7,8 @@ use Rattle.std.proofs.lemmas.Option.{slice_get-map}
 use Rattle.cjc_bytes.specs.AccessFlags.{is_interface}
 use Rattle.cjc_bytes.specs.declared.fault.MemberId.{MemberId}
 use Rattle.cjc_bytes.proofs.Bools.{both_front, both_back}
-use Rattle.cjc_tokens.specs.ClassFile.declared.tree.ClassTree.{ClassTree}
-use Rattle.cjc_tokens.specs.ClassFile.declared.tree.MethodTree.{MethodTree}
+use Rattle.cjc_world.specs.ClassFile.declared.tree.ClassTree.{ClassTree}
+use Rattle.cjc_world.specs.ClassFile.declared.tree.MethodTree.{MethodTree}
 use Rattle.cjc_world.specs.Added.{added, added_at, added_to, named_by}
 use Rattle.cjc_world.specs.Classes.{Class, Member, all_classes, declared, field_of_class, method_of_class}
 use Rattle.cjc_world.specs.Files.{Files}
@@ -21,7 +21,7 @@ use Rattle.cjc_tokens.specs.Tokens.{assigned, token_of_member}
 use Rattle.cjc_tokens.specs.Working.{member_of}
 use Rattle.cjc_tokens.proofs.Facts.{has-got_none, has-own_none, position-cons, same-true}
 use Rattle.cjc_tokens.proofs.Steps.{signatures-ids}
-use Rattle.cjc_components.specs.VTable.Calls.{any_method}
+use Rattle.cjc_components.specs.LowerVTable.Calls.{any_method}
 use Rattle.cjc_components.proofs.VTableSlotNames.{position-at}
 use Rattle.cjc_classes.specs.Walks.{IsHiddenHere, IsShownHere, called}
 use Rattle.cjc_classes.proofs.KeyTokens.Kept.{got_kept, hidden_kept, shown_kept}

@@ -18,7 +18,7 @@ use Rattle.cjc_tokens.specs.Working.{token_meant, token_with}
 use Rattle.cjc_tokens.proofs.Facts.{chosen-none, got-none, own-none, same-true}
 use Rattle.cjc_tokens.proofs.Held.{new-offered, token-cons, token-nil}
 use Rattle.cjc_components.proofs.VTableShown.{shown_meant}
-use Rattle.cjc_components.specs.VTable.Calls.{any_method, finds_hidden, passes}
+use Rattle.cjc_components.specs.LowerVTable.Calls.{any_method, finds_hidden, passes}
 use Rattle.cjc_classes.specs.Walks.{TellsHidden, hidden_token}
 
 -- ---- slots behind others

@@ -3,7 +3,7 @@ use Rattle.std.proofs.Common.{◌≡◌, ◌∙◌, ℕ, ◌<◌, true, false, L
 use Rattle.std.proofs.Common.{None}
 use Rattle.std.specs.Prelude.{if◌then◌else◌, slice_get}
 use Rattle.std.proofs.lemmas.Option.{slice_get_within}
-use Rattle.cjc_tokens.specs.ClassFile.declared.tree.ClassTree.{ClassTree}
+use Rattle.cjc_world.specs.ClassFile.declared.tree.ClassTree.{ClassTree}
 use Rattle.cjc_world.specs.Files.{Files}
 use Rattle.cjc_world.specs.Added.{added}
 use Rattle.cjc_world.specs.Classes.{Class, all_classes, class_named, declared}
@@ -13,7 +13,7 @@ use Rattle.cjc_tokens.specs.Members.{Signature}
 use Rattle.cjc_tokens.specs.Slots.{shown_token}
 use Rattle.cjc_tokens.proofs.Supers.{class_at-number, line-known}
 use Rattle.cjc_tokens.proofs.Walks.{supertypes-unknown}
-use Rattle.cjc_components.specs.VTable.Calls.{finds_hidden}
+use Rattle.cjc_components.specs.LowerVTable.Calls.{finds_hidden}
 use Rattle.cjc_classes.specs.Walks.{IsHiddenHere, IsShownHere, TellsHidden}
 use Rattle.cjc_classes.proofs.KeyTokens.Lines.{hidden_above, hidden_found, hidden_none, shown_above}
 

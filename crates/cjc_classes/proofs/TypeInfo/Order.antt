@@ -6,22 +6,22 @@ use Rattle.std.specs.List.{flat_map}
 use Rattle.std.specs.Str.{bytes_eq}
 use Rattle.std.proofs.lemmas.List.{map-append}
 use Rattle.cjc_bytes.specs.declared.fault.MemberId.{MemberId}
-use Rattle.cjc_components.specs.CapRead.declared.tree.ClassRef.{ClassRef}
-use Rattle.cjc_tokens.specs.ClassFile.declared.tree.ClassTree.{ClassTree}
-use Rattle.cjc_tokens.specs.ClassFile.declared.tree.MethodTree.{MethodTree}
+use Rattle.cjc_components.specs.LowerCapRead.declared.tree.ClassRef.{ClassRef}
+use Rattle.cjc_world.specs.ClassFile.declared.tree.ClassTree.{ClassTree}
+use Rattle.cjc_world.specs.ClassFile.declared.tree.MethodTree.{MethodTree}
 use Rattle.cjc_world.specs.Files.{Files}
 use Rattle.cjc_world.specs.Classes.{Class, Member, all_classes, declared, method_of_class}
 use Rattle.cjc_world.specs.Added.{added, added_at, added_to, named_by, without_initialiser}
 use Rattle.cjc_world.specs.Order.{class_order}
-use Rattle.cjc_components.specs.NCode.declared.narrow.PoolKey.{PoolKey}
-use Rattle.cjc_components.specs.ClassOrder.Supers.Supers.{each_once}
-use Rattle.cjc_components.specs.ClassOrder.Supers.Working.Walk.{with_all}
+use Rattle.cjc_components.specs.LowerNCode.declared.narrow.PoolKey.{PoolKey}
+use Rattle.cjc_components.specs.LowerClassOrder.Supers.Supers.{each_once}
+use Rattle.cjc_components.specs.LowerClassOrder.Supers.Working.Walk.{with_all}
 use Rattle.cjc_components.proofs.ClassOrderSets.{all_append, all_once}
 use Rattle.cjc_components.specs.Class.{fields_in}
 use Rattle.cjc_components.specs.Package.{Package, pool, world}
 use Rattle.cjc_components.specs.Names.{class_ref}
-use Rattle.cjc_components.specs.CheckRules.Spots.{starts}
-use Rattle.cjc_components.specs.CheckRules.Complete.{type_size}
+use Rattle.cjc_components.specs.LowerCheckRules.Spots.{starts}
+use Rattle.cjc_components.specs.LowerCheckRules.Complete.{type_size}
 use Rattle.cjc_components.specs.Types.{all_descs, desc_of_field, desc_of_key, descs_of_class, nibbles_of}
 use Rattle.cjc_components.specs.Types.{type_descriptor, type_starts, types_of}
 use Rattle.cjc_classes.specs.TypeInfo.TypeTable.{AreOf, class_at, type_table}

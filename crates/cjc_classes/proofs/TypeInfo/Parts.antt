@@ -5,9 +5,9 @@ use Rattle.std.specs.Prelude.{if◌then◌else◌, option_and_then}
 use Rattle.std.specs.List.{flat_map}
 use Rattle.cjc_bytes.specs.Descriptor.{Part, Parts}
 use Rattle.cjc_bytes.specs.Spots.{desc_of}
-use Rattle.cjc_components.specs.CapRead.declared.tree.ClassRef.{ClassRef}
-use Rattle.cjc_components.specs.Script.Sorts.{Signature, Sort, field_sort, result_by, signature_by, sort_of}
-use Rattle.cjc_components.specs.Script.Sorts.{sort_or_none}
+use Rattle.cjc_components.specs.LowerCapRead.declared.tree.ClassRef.{ClassRef}
+use Rattle.cjc_components.specs.LowerScript.Sorts.{Signature, Sort, field_sort, result_by, signature_by, sort_of}
+use Rattle.cjc_components.specs.LowerScript.Sorts.{sort_or_none}
 use Rattle.cjc_components.specs.Types.{nibbles_by, result_nibbles, sort_nibbles}
 use Rattle.cjc_classes.specs.TypeInfo.Working.Nibbles.{nibbles_in, parts_nibbles}
 

@@ -3,9 +3,9 @@ use Rattle.std.proofs.Common.{◌≡◌, ℕ, suc, ◌+◌, ◌*◌, ◌/◌, �
 use Rattle.std.proofs.Common.{drop, take, refl, sym, ap, ◌∙◌, append_assoc, append-nil, Option, Some, None}
 use Rattle.std.proofs.lemmas.List.{drop_more, drop_all, map-append, take_more}
 use Rattle.std.proofs.lemmas.Option.{slice_get_within, get_or_from_slice_get}
-use Rattle.cjc_components.specs.CapRead.declared.tree.TypeDescriptor.{TypeDescriptor}
-use Rattle.cjc_components.specs.CheckRules.Spots.{placed, starts}
-use Rattle.cjc_components.specs.CheckRules.Complete.{type_size}
+use Rattle.cjc_components.specs.LowerCapRead.declared.tree.TypeDescriptor.{TypeDescriptor}
+use Rattle.cjc_components.specs.LowerCheckRules.Spots.{placed, starts}
+use Rattle.cjc_components.specs.LowerCheckRules.Complete.{type_size}
 use Rattle.cjc_components.specs.Types.{type_descriptor}
 
 pub starts_next : (row : List ℕ) (at : ℕ) (types : List (List ℕ)) (i : ℕ) (x : List ℕ) (total : List ℕ)

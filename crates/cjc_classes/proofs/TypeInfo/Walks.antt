@@ -7,9 +7,9 @@ use Rattle.std.proofs.lemmas.List.{drop_all, map-append}
 use Rattle.std.proofs.lemmas.List.Concat.{flat_map-cons, flat_map-append}
 use Rattle.cjc_bytes.specs.declared.fault.MemberId.{MemberId}
 use Rattle.cjc_bytes.proofs.Gets.{get_step}
-use Rattle.cjc_components.specs.CapRead.declared.tree.ClassRef.{ClassRef}
-use Rattle.cjc_tokens.specs.ClassFile.declared.tree.ClassTree.{ClassTree}
-use Rattle.cjc_components.specs.ClassOrder.Supers.Working.Walk.{with_all}
+use Rattle.cjc_components.specs.LowerCapRead.declared.tree.ClassRef.{ClassRef}
+use Rattle.cjc_world.specs.ClassFile.declared.tree.ClassTree.{ClassTree}
+use Rattle.cjc_components.specs.LowerClassOrder.Supers.Working.Walk.{with_all}
 use Rattle.cjc_components.proofs.ClassOrderSets.{all_append}
 use Rattle.cjc_components.specs.Types.{desc_of_field}
 use Rattle.cjc_classes.specs.TypeInfo.Working.Nibbles.{nibbles_in}

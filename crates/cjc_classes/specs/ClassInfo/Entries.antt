@@ -2,19 +2,19 @@
 -- Specification 2.2.2, section 6.8).
 use Rattle.std.specs.Prelude.{◌≡◌, ℕ, List, [], ◌∷◌, ◌++◌, map, get_or, Option, Some, None, option_to_list, slice_get}
 use Rattle.std.specs.Prelude.{if◌then◌else◌}
-use Rattle.cjc_components.specs.CapRead.declared.tree.ClassRef.{ClassRef}
-use Rattle.cjc_components.specs.CapRead.declared.tree.ClassEntry.{ClassEntry}
-use Rattle.cjc_components.specs.CapRead.declared.tree.InterfaceEntry.{InterfaceEntry}
-use Rattle.cjc_tokens.specs.ClassFile.declared.tree.ClassTree.{ClassTree}
+use Rattle.cjc_components.specs.LowerCapRead.declared.tree.ClassRef.{ClassRef}
+use Rattle.cjc_components.specs.LowerCapRead.declared.tree.ClassEntry.{ClassEntry}
+use Rattle.cjc_components.specs.LowerCapRead.declared.tree.InterfaceEntry.{InterfaceEntry}
+use Rattle.cjc_world.specs.ClassFile.declared.tree.ClassTree.{ClassTree}
 use Rattle.cjc_world.specs.declared.found.Found.{Found}
 use Rattle.cjc_world.specs.Files.{Files}
 use Rattle.cjc_world.specs.Classes.{Class, all_classes, declared}
 use Rattle.cjc_tokens.specs.Fields.{instance_cells}
-use Rattle.cjc_components.specs.VTable.declared.table.ClassTable.{ClassTable}
+use Rattle.cjc_components.specs.LowerVTable.declared.table.ClassTable.{ClassTable}
 use Rattle.cjc_components.specs.Package.{Package}
 use Rattle.cjc_components.specs.Methods.{method_offset}
 use Rattle.cjc_components.specs.Class.{first_reference_token, implemented, info_flags, interface_entry, reference_count}
-use Rattle.cjc_components.specs.ClassOrder.Classes.Numbers.{declared_at}
+use Rattle.cjc_components.specs.LowerClassOrder.Classes.Numbers.{declared_at}
 
 -- ---- offsets of methods
 

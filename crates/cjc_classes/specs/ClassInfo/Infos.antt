@@ -3,12 +3,12 @@
 use Rattle.std.specs.Prelude.{ℕ, ◌+◌, ◌*◌, List, [], ◌∷◌, length, sum_by, Bool, false, if◌then◌else◌, Option, Some}
 use Rattle.std.specs.Prelude.{None}
 use Rattle.std.specs.Str.{bytes_eq}
-use Rattle.cjc_tokens.specs.ClassFile.declared.tree.ClassTree.{ClassTree}
+use Rattle.cjc_world.specs.ClassFile.declared.tree.ClassTree.{ClassTree}
 use Rattle.cjc_world.specs.Classes.{Class}
-use Rattle.cjc_components.specs.VTable.declared.table.ClassTable.{ClassTable}
-use Rattle.cjc_components.specs.VTable.declared.table.InterfaceMap.{InterfaceMap}
+use Rattle.cjc_components.specs.LowerVTable.declared.table.ClassTable.{ClassTable}
+use Rattle.cjc_components.specs.LowerVTable.declared.table.InterfaceMap.{InterfaceMap}
 use Rattle.cjc_components.specs.Class.{interfaces_of}
-use Rattle.cjc_components.specs.ClassOrder.Classes.Numbers.{declared_at}
+use Rattle.cjc_components.specs.LowerClassOrder.Classes.Numbers.{declared_at}
 
 -- an interface: flags with a count, and its superinterfaces
 abbrev pub interface_bytes : List Class → Class → ℕ

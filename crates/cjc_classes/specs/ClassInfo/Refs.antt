@@ -2,8 +2,8 @@
 use Rattle.std.specs.Prelude.{◌≡◌, ℕ, List, Option, unwrap_or}
 use Rattle.std.specs.HashMap.{get_by}
 use Rattle.std.specs.Str.{bytes_eq}
-use Rattle.cjc_components.specs.CapRead.declared.tree.ClassRef.{ClassRef}
-use Rattle.cjc_components.specs.CapRead.declared.tree.ClassRef.TheVariants.{Inside}
+use Rattle.cjc_components.specs.LowerCapRead.declared.tree.ClassRef.{ClassRef}
+use Rattle.cjc_components.specs.LowerCapRead.declared.tree.ClassRef.TheVariants.{Inside}
 use Rattle.cjc_components.specs.Package.{Package}
 use Rattle.cjc_components.specs.Names.{class_ref}
 use Rattle.cjc_classes.specs.declared.class_info.refs.ClassRefs.{ClassRefs}

@@ -1,7 +1,7 @@
 -- Which static images can be written: their numbers are of the types of their fields and arrays.
 use Rattle.std.specs.Prelude.{◌≡◌, [], All, Bool, false, true, ℤ}
-use Rattle.cjc_components.specs.Script.declared.value.Value.TheVariants.{Num}
-use Rattle.cjc_components.specs.Script.Sorts.{Sort, field_sort, fits, sort_by}
+use Rattle.cjc_components.specs.LowerScript.declared.value.Value.TheVariants.{Num}
+use Rattle.cjc_components.specs.LowerScript.Sorts.{Sort, field_sort, fits, sort_by}
 use Rattle.cjc_world.specs.declared.image.ArrayCell.{ArrayCell}
 use Rattle.cjc_world.specs.declared.image.ValueCell.{ValueCell}
 use Rattle.cjc_world.specs.declared.image.StaticImage.{StaticImage}

@@ -1,11 +1,11 @@
 -- What ties to a package what is made of it before its Descriptor.
 use Rattle.std.specs.Prelude.{◌≡◌, ℕ, ◌+◌, List, [], ◌∷◌, map, length}
 use Rattle.std.specs.List.{range_with_len}
-use Rattle.cjc_tokens.specs.ClassFile.declared.tree.ClassTree.{ClassTree}
+use Rattle.cjc_world.specs.ClassFile.declared.tree.ClassTree.{ClassTree}
 use Rattle.cjc_world.specs.Classes.{Class, declared}
 use Rattle.cjc_world.specs.Lookup.{member_at}
 use Rattle.cjc_world.specs.Added.{added}
-use Rattle.cjc_components.specs.Clinit.Image.{field_id}
+use Rattle.cjc_components.specs.LowerClinit.Image.{field_id}
 use Rattle.cjc_components.specs.Package.{Package, tokens, world}
 use Rattle.cjc_components.specs.Methods as methods
 use Rattle.cjc_components.specs.Methods.{extent_of}

@@ -1,9 +1,9 @@
 -- What the code's types of values stand for.
-use Rattle.cjc_components.specs.Script.Sorts.{Booleans, Bytes, Shorts, Ints, OfClass, OfNumbers, OfReferences}
-use Rattle.cjc_components.specs.Script.Sorts.{Boolean}
-use Rattle.cjc_components.specs.Script.Sorts.{Byte}
-use Rattle.cjc_components.specs.Script.Sorts.{Short, Int, Reference, NoValue}
-use Rattle.cjc_components.specs.Script.Sorts
+use Rattle.cjc_components.specs.LowerScript.Sorts.{Booleans, Bytes, Shorts, Ints, OfClass, OfNumbers, OfReferences}
+use Rattle.cjc_components.specs.LowerScript.Sorts.{Boolean}
+use Rattle.cjc_components.specs.LowerScript.Sorts.{Byte}
+use Rattle.cjc_components.specs.LowerScript.Sorts.{Short, Int, Reference, NoValue}
+use Rattle.cjc_components.specs.LowerScript.Sorts
 use Rattle.cjc_classes.specs.declared.type_info.sort.Sort.{Sort}
 use Rattle.cjc_classes.specs.declared.type_info.sort.Sort.TheVariants as sorts
 

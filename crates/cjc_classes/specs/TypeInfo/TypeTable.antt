@@ -2,12 +2,12 @@
 use Rattle.std.specs.Prelude.{◌≡◌, ℕ, List, Option, map, slice_get, option_map, option_and_then, position, unwrap_or}
 use Rattle.std.specs.Prelude.{Some}
 use Rattle.std.specs.Str.{bytes_eq}
-use Rattle.cjc_components.specs.CapRead.declared.tree.ClassRef.{ClassRef}
-use Rattle.cjc_tokens.specs.ClassFile.declared.tree.ClassTree.{ClassTree}
+use Rattle.cjc_components.specs.LowerCapRead.declared.tree.ClassRef.{ClassRef}
+use Rattle.cjc_world.specs.ClassFile.declared.tree.ClassTree.{ClassTree}
 use Rattle.cjc_world.specs.Files.{Files}
 use Rattle.cjc_world.specs.Classes.{Class, declared}
 use Rattle.cjc_world.specs.Order.{class_order}
-use Rattle.cjc_components.specs.NCode.declared.narrow.PoolKey.{PoolKey}
+use Rattle.cjc_components.specs.LowerNCode.declared.narrow.PoolKey.{PoolKey}
 use Rattle.cjc_components.specs.Package.{Package, pool, world}
 use Rattle.cjc_components.specs.Names.{class_ref}
 use Rattle.cjc_components.specs.Types.{nibbles_by, type_starts, types_of}

@@ -3,7 +3,7 @@
 
 ghost use Rattle.std.specs.Prelude.{◌≡◌, map, IfOk};
 ghost use Rattle.cjc_world.specs.Classes.{all_classes};
-ghost use Rattle.cjc_components.specs.VTable.Tables.{class_tables};
+ghost use Rattle.cjc_components.specs.LowerVTable.Tables.{class_tables};
 ghost use Rattle.cjc_components.specs.Package.{Package};
 ghost use Rattle.cjc_classes.specs.ClassInfo.Refs.{AreRefs, ref_of};
 

@@ -2,8 +2,8 @@
 //! by `infos`.
 
 ghost use Rattle.std.specs.Prelude.{◌≡◌, ℕ, List, option_map, IfOk, OnOk};
-ghost use Rattle.cjc_components.specs.CapRead.declared.tree.ClassRef.TheVariants.{Outside};
-ghost use Rattle.cjc_components.specs.CardSemantics.Machine.Classes.{external_from, or_else, token_named};
+ghost use Rattle.cjc_components.specs.LowerCapRead.declared.tree.ClassRef.TheVariants.{Outside};
+ghost use Rattle.cjc_components.specs.LowerCardSemantics.Machine.Classes.{external_from, or_else, token_named};
 ghost use Rattle.cjc_components.specs.Names.{ref_to};
 ghost use Rattle.cjc_classes.specs.ClassInfo.Refs.{ref_in};
 

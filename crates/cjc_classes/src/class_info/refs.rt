@@ -3,7 +3,7 @@
 
 ghost use Rattle.std.specs.Prelude.{◌≡◌, ℕ, List, None, OnOk, Some, cond};
 ghost use Rattle.std.specs.Str.{bytes_eq};
-ghost use Rattle.cjc_components.specs.CardSemantics.Machine.Classes.{or_else};
+ghost use Rattle.cjc_components.specs.LowerCardSemantics.Machine.Classes.{or_else};
 ghost use Rattle.cjc_classes.specs.ClassInfo.Refs.{ref_in, ref_of};
 
 use cjc_bytes::NoMemory;

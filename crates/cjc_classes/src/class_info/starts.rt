@@ -1,8 +1,8 @@
 //! Where the infos of Class stand: interfaces before classes, one behind the other. Called by `infos`.
 
 ghost use Rattle.std.specs.Prelude.{◌≡◌, ◌+◌, ℕ, List, cond, None, Some, option_map, IfOk, OnOk};
-ghost use Rattle.cjc_components.specs.CapRead.declared.tree.ClassRef.TheVariants.{Inside};
-ghost use Rattle.cjc_components.specs.CardSemantics.Machine.Classes.{or_else};
+ghost use Rattle.cjc_components.specs.LowerCapRead.declared.tree.ClassRef.TheVariants.{Inside};
+ghost use Rattle.cjc_components.specs.LowerCardSemantics.Machine.Classes.{or_else};
 ghost use Rattle.cjc_world.specs.Classes.{all_classes};
 ghost use Rattle.cjc_classes.specs.ClassInfo.Refs.{ref_in};
 ghost use Rattle.cjc_classes.specs.ClassInfo.Infos.{bytes_at, end_of, number_named, spot_in, table_bytes, table_named};

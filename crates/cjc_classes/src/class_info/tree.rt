@@ -3,8 +3,8 @@
 
 ghost use Rattle.std.specs.Prelude.{◌≡◌, ◌++◌, map, option_to_list, IfOk, OnOk};
 ghost use Rattle.cjc_world.specs.Classes.{all_classes};
-ghost use Rattle.cjc_components.specs.ClassOrder.Classes.Numbers.{declared_at};
-ghost use Rattle.cjc_components.specs.VTable.Tables.{class_tables};
+ghost use Rattle.cjc_components.specs.LowerClassOrder.Classes.Numbers.{declared_at};
+ghost use Rattle.cjc_components.specs.LowerVTable.Tables.{class_tables};
 ghost use Rattle.cjc_components.specs.Package.{Package};
 ghost use Rattle.cjc_components.specs.Class.{class_info, interface_entry};
 ghost use Rattle.cjc_components.specs.Names.{class_ref};

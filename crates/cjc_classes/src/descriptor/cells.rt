@@ -3,8 +3,8 @@
 
 ghost use Rattle.std.specs.Prelude.{◌≡◌, ◌+◌, [], map, IfOk, OnOk};
 ghost use Rattle.std.specs.Cmp.{partial_equiv_from_equiv};
-ghost use Rattle.cjc_components.specs.NCode.PoolOrder.{same_member};
-ghost use Rattle.cjc_components.specs.Clinit.Image.{field_id};
+ghost use Rattle.cjc_components.specs.LowerNCode.PoolOrder.{same_member};
+ghost use Rattle.cjc_components.specs.LowerClinit.Image.{field_id};
 ghost use Rattle.cjc_components.specs.Statics.{cell_offset};
 ghost use Rattle.cjc_classes.specs.Descriptor.Keys.{key_cell};
 ghost use Rattle.cjc_classes.specs.Descriptor.Working.Cells.{HasCell, HasOffset, StandBehind, fed, member-equivalence};

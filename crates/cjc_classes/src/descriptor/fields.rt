@@ -2,7 +2,7 @@
 //! by `classes`.
 
 ghost use Rattle.std.specs.Prelude.{◌≡◌, ◌++◌, ◌<◌, ◌^◌, length, IfOk, OnOk};
-ghost use Rattle.cjc_components.specs.Script.Sorts.{field_sort};
+ghost use Rattle.cjc_components.specs.LowerScript.Sorts.{field_sort};
 ghost use Rattle.cjc_tokens.specs.Fields.{is_constant};
 ghost use Rattle.cjc_classes.specs.ClassInfo.Refs.{ref_of};
 ghost use Rattle.cjc_classes.specs.TypeInfo.TypeTable.{offset_in};

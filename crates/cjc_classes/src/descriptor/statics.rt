@@ -3,8 +3,8 @@
 
 ghost use Rattle.std.specs.Prelude.{◌≡◌, ◌+◌, ◌*◌, ◌++◌, [], true, map, length, sum_by, IfOk, OnOk, All};
 ghost use Rattle.std.specs.List.{flat_map};
-ghost use Rattle.cjc_components.specs.CapRead.Decode.{two_bytes, four_bytes};
-ghost use Rattle.cjc_components.specs.Script.Sorts.{sort_by};
+ghost use Rattle.cjc_components.specs.LowerCapRead.Decode.{two_bytes, four_bytes};
+ghost use Rattle.cjc_components.specs.LowerScript.Sorts.{sort_by};
 ghost use Rattle.cjc_components.specs.Statics.{array_init, cell_size, default_size, element_bytes, other_values};
 ghost use Rattle.cjc_components.specs.Statics.{reference_count, size_of_field, static_field, type_number, value_by};
 ghost use Rattle.cjc_components.specs.Statics.{value_bytes};

@@ -2,7 +2,7 @@
 //! themselves (Java Card Virtual Machine Specification 2.2.2, section 6.4).
 
 ghost use Rattle.std.specs.Prelude.{◌≡◌, IfOk};
-ghost use Rattle.cjc_components.specs.CheckRules.Listed.{applet_count, array_bytes};
+ghost use Rattle.cjc_components.specs.LowerCheckRules.Listed.{applet_count, array_bytes};
 ghost use Rattle.cjc_components.specs.Package.{Package};
 ghost use Rattle.cjc_components.specs.Components.{applet, directory_with, import};
 ghost use Rattle.cjc_components.specs.Statics.{static_field};

@@ -1,7 +1,7 @@
 //! The superclass of a class of the package, for the walks upwards that look for a slot.
 
 ghost use Rattle.std.specs.Prelude.{◌≡◌, ◌<◌, Some, length, option_map, slice_get};
-ghost use Rattle.cjc_tokens.specs.ClassFile.declared.tree.ClassTree.{ClassTree as Tree};
+ghost use Rattle.cjc_world.specs.ClassFile.declared.tree.ClassTree.{ClassTree as Tree};
 ghost use Rattle.cjc_world.specs.Classes.{all_classes, class_named};
 ghost use Rattle.cjc_world.specs.Working.Known.{class_of};
 

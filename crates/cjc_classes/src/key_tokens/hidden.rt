@@ -1,7 +1,7 @@
 //! Package-visible methods, which have tokens of their own. Called by `keys`.
 
 ghost use Rattle.std.specs.Prelude.{◌≡◌, ◌<◌, Bool, Some, length, slice_get, IfOk};
-ghost use Rattle.cjc_tokens.specs.ClassFile.declared.tree.ClassTree.{ClassTree as Tree};
+ghost use Rattle.cjc_world.specs.ClassFile.declared.tree.ClassTree.{ClassTree as Tree};
 ghost use Rattle.cjc_world.specs.Classes.{all_classes, declared};
 ghost use Rattle.cjc_tokens.specs.Lines.{line_at};
 ghost use Rattle.cjc_tokens.specs.Tokens.{assigned};

@@ -2,7 +2,7 @@
 //! crate is called for.
 
 ghost use Rattle.std.specs.Prelude.{◌≡◌, ◌<◌, Bool, Some, length, map, slice_get, IfOk};
-ghost use Rattle.cjc_tokens.specs.ClassFile.declared.tree.ClassTree.{ClassTree as Tree};
+ghost use Rattle.cjc_world.specs.ClassFile.declared.tree.ClassTree.{ClassTree as Tree};
 ghost use Rattle.cjc_world.specs.Classes.{all_classes, declared};
 ghost use Rattle.cjc_tokens.specs.Lines.{line_at, line_of};
 ghost use Rattle.cjc_tokens.specs.Tokens.{assigned};

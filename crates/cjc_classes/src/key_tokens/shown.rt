@@ -2,7 +2,7 @@
 //! declares it, got it or is imported. Called by `keys`.
 
 ghost use Rattle.std.specs.Prelude.{◌≡◌, ◌<◌, ◌&&◌, Bool, None, Some, length, map, position, slice_get, IfOk};
-ghost use Rattle.cjc_tokens.specs.ClassFile.declared.tree.ClassTree.{ClassTree as Tree};
+ghost use Rattle.cjc_world.specs.ClassFile.declared.tree.ClassTree.{ClassTree as Tree};
 ghost use Rattle.cjc_world.specs.Classes.{all_classes, declared, method_of_class};
 ghost use Rattle.cjc_world.specs.Lookup.{is_called};
 ghost use Rattle.cjc_tokens.specs.Lines.{line_at};

@@ -2,7 +2,7 @@
 
 ghost use Rattle.std.specs.Prelude.{◌≡◌, ◌∷◌, ◌++◌, ◌/◌, ◌%◌, [], map, IfOk, OnOk};
 ghost use Rattle.std.specs.List.{flat_map};
-ghost use Rattle.cjc_components.specs.Script.Sorts.{result_by, sort_of};
+ghost use Rattle.cjc_components.specs.LowerScript.Sorts.{result_by, sort_of};
 ghost use Rattle.cjc_components.specs.Types.{ref_nibbles, result_nibbles, sort_nibbles};
 ghost use Rattle.cjc_classes.specs.TypeInfo.Meant.{sort_meant};
 ghost use Rattle.cjc_classes.specs.ClassInfo.Refs.{ref_of};

@@ -4,8 +4,8 @@
 
 ghost use Rattle.std.specs.Prelude.{◌≡◌, IfOk};
 ghost use Rattle.cjc_bytes.specs.Spots.{desc_of, part_of};
-ghost use Rattle.cjc_components.specs.Script.Sorts.{array_by, field_sort, reference_to, shape_named, sort_by};
-ghost use Rattle.cjc_components.specs.Script.Sorts.{sort_of};
+ghost use Rattle.cjc_components.specs.LowerScript.Sorts.{array_by, field_sort, reference_to, shape_named, sort_by};
+ghost use Rattle.cjc_components.specs.LowerScript.Sorts.{sort_of};
 ghost use Rattle.cjc_classes.specs.TypeInfo.Meant.{sort_meant};
 
 use cjc_bytes::{Desc, Kind, NoMemory};

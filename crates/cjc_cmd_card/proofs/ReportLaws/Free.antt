@@ -1,41 +1,42 @@
 -- What is known of a package and components that are ready to be run.
-use Rattle.std.proofs.Common.{◌≡◌, inl, inr, ◌⊎◌, ℕ, List, [], refl, sym, ap, subst, ◌∙◌}
+use Rattle.std.proofs.Common.{◌≡◌, inl, inr, ◌⊎◌, ℕ, List, [], map, refl, sym, ap, subst, ◌∙◌}
 use Rattle.std.specs.Prelude.{Some, Ok, Err, Result, IfErr}
-use Rattle.cjc_card.specs.Bytes.Breaks.{Among, Break, IsFirst, IsFirstRefusal}
-use Rattle.cjc_card.specs.Bytes.declared.fault.Fault.{Fault}
-use Rattle.cjc_card.specs.Bytes.declared.fault.Fault.TheVariants as faults
-use Rattle.cjc_card.specs.Bytes.declared.fault.Refusal.{Refusal}
-use Rattle.cjc_card.specs.Bytes.Order.{NotAfter}
-use Rattle.cjc_cmd_check.specs.CapRead.declared.tree.CapTree.{CapTree}
+use Rattle.cjc_cmd_check.specs.Bytes.Breaks.{Among, Break, IsFirst, IsFirstRefusal}
+use Rattle.cjc_cmd_check.specs.Bytes.declared.fault.Fault.{Fault}
+use Rattle.cjc_cmd_check.specs.Bytes.declared.fault.Fault.TheVariants as faults
+use Rattle.cjc_cmd_check.specs.Bytes.declared.fault.Refusal.{Refusal}
+use Rattle.cjc_cmd_check.specs.Bytes.Order.{NotAfter}
+use Rattle.cjc_card.specs.CapRead.declared.tree.CapTree.{CapTree}
 use Rattle.cjc_cmd_card.specs.Running.Ready.{Breaks, IsReady}
 use Rattle.cjc_cmd_card.specs.declared.running.input.Input.{Input}
 use Rattle.cjc_cmd_card.specs.declared.running.ready.Ready.{Ready}
-use Rattle.cjc_shape.specs.Clinit.Image.{IsImage}
-use Rattle.cjc_shape.specs.Clinit.Rules.{BreaksImage}
+use Rattle.cjc_pairing.specs.Clinit.Image.{IsImage}
+use Rattle.cjc_pairing.specs.Clinit.Rules.{BreaksImage}
 use Rattle.cjc_pairing.proofs.ClinitOneImage.{one-image}
-use Rattle.cjc_pairing.specs.Bytecode.PackageCodes.{all_codes}
-use Rattle.cjc_pairing.specs.Bytecode.declared.method_code.MethodCode.{MethodCode}
-use Rattle.cjc_shape.specs.Judge.declared.groups.Group.TheVariants as groups
-use Rattle.cjc_shape.specs.Judge.declared.judged.Judged.{Judged}
-use Rattle.cjc_shape.specs.Judge.Rules.{AreWorld, IsFirstFault, IsFirstOf, IsFirstRefused, OnLevels, files_spelt}
-use Rattle.cjc_shape.specs.Judge.Rules.{has_applets}
-use Rattle.cjc_shape.specs.Judge.Rules.{of_group, of_world, on_first, on_second, settings_of, world_files}
-use Rattle.cjc_shape.specs.Judge.Spelt.{FileTree, SpellTrees, classes_of, exports_of}
+use Rattle.cjc_card.specs.Bytecode.PackageCodes.{all_codes}
+use Rattle.cjc_card.specs.Bytecode.declared.method_code.MethodCode.{MethodCode}
+use Rattle.cjc_cmd_jvm.specs.Judge.declared.groups.Group.TheVariants as groups
+use Rattle.cjc_cmd_jvm.specs.Judge.declared.judged.Judged.{Judged}
+use Rattle.cjc_cmd_jvm.specs.Judge.Rules.{AreWorld, IsFirstFault, IsFirstOf, IsFirstRefused, OnLevels, files_spelt}
+use Rattle.cjc_cmd_jvm.specs.Judge.Rules.{has_applets}
+use Rattle.cjc_cmd_jvm.specs.Judge.Rules.{of_group, of_world, on_first, on_second, settings_of, world_files}
+use Rattle.cjc_cmd_jvm.specs.Judge.Spelt.{FileTree, SpellTrees, classes_of, exports_of}
 use Rattle.cjc_shape.proofs.JudgeFirsts.{one_spelling, all_spell}
-use Rattle.cjc_pairing.specs.List.Listed.{ListTree}
-use Rattle.cjc_pairing.specs.Components.Paired.Pairs.{pair_breaks}
+use Rattle.cjc_cmd_check.specs.List.Listed.{ListTree}
+use Rattle.cjc_shape.specs.Components.Paired.Pairs.{ArePaired, pair_breaks}
 use Rattle.cjc_shape.proofs.PreparedLaws.Limited as limited
-use Rattle.cjc_card.specs.CheckRules.Complete.{Complete, complete}
-use Rattle.cjc_shape.specs.Subset.Checks.{check_breaks}
-use Rattle.cjc_pairing.specs.Tokens.Rules.{FewCells, FewExported, tested_breaks, token_breaks}
-use Rattle.cjc_card.specs.World.Files.{Files}
-use Rattle.cjc_card.specs.World.Rules.{breaks}
-use Rattle.cjc_card.specs.World.declared.image.StaticImage.{StaticImage}
+use Rattle.cjc_pairing.specs.CheckRules.Complete.{Complete, complete}
+use Rattle.cjc_pairing.specs.CheckRules.Consistent.{break_at}
+use Rattle.cjc_pairing.specs.Subset.Checks.{check_breaks}
+use Rattle.cjc_shape.specs.Tokens.Rules.{FewCells, FewExported, tested_breaks, token_breaks}
+use Rattle.cjc_pairing.specs.World.Files.{Files}
+use Rattle.cjc_pairing.specs.World.Rules.{breaks}
+use Rattle.cjc_pairing.specs.World.declared.image.StaticImage.{StaticImage}
 use Rattle.cjc_cmd_card.specs.Report.Runs.{AnyBreaks, BreaksPair}
 use Rattle.cjc_cmd_card.specs.Report.Working.{IsPairFault}
 use Rattle.cjc_cmd_card.proofs.ReportLaws.Once.{SentencesHold, ready_unbroken}
 use Rattle.cjc_cmd_check.proofs.BytesPlain.{the_same}
-use Rattle.cjc_cmd_check.proofs.BytesBrokenRules.{no_breaks}
+use Rattle.cjc_cmd_check.proofs.BytesBrokenRules.{no_breaks, none_among}
 
 -- ---- a package
 
@@ -161,12 +162,12 @@ module _ (hold : SentencesHold) (input : Input) (name : List ℕ) (ready : Ready
       λ i. pair_breaks (world i) (one i) (same i) in
       subst (Among b) lists p.broken
 
-  none_first : (b : Break) → Breaks input name b → ⊥
-  none_first b broken = ready_unbroken hold input name ready is b broken
+  none_before : (b : Break) → Breaks input name b → ⊥
+  none_before b broken = ready_unbroken hold input name ready is b broken
 
   least_of : (b a : Break) → IsFirst b (let judged = ready.judged in pair_breaks judged.world image whole)
       → AnyBreaks input name a → NotAfter b.rank a.rank
-  least_of b a first (on_first x) = absurd (none_first a x)
+  least_of b a first (on_first x) = absurd (none_before a x)
   least_of b a first (on_second none p) = first.least a (of_pair a p)
 
   -- the first that is broken of the components is the first of all
@@ -178,7 +179,7 @@ module _ (hold : SentencesHold) (input : Input) (name : List ℕ) (ready : Ready
     record {
       broken = b;
       first = record {
-        breaks = on_second (λ a x. none_first a x) (pair_of b first.among);
+        breaks = on_second (λ a x. none_before a x) (pair_of b first.among);
         least = λ a any. least_of b a first any;
       };
       is = refl;
@@ -218,3 +219,21 @@ first_fault input name e (inr (r, refused, is)) =
       },
       is,
     )
+
+-- ---- components that are of their package
+
+-- none of the rules is broken
+pub none_first : (hold : SentencesHold) (input : Input) (ready : Ready) (is : IsReady input [] ready)
+    (image : StaticImage) (is_image : (let judged = ready.judged in IsImage judged.world judged.codes image))
+    (whole : Complete) (whole_is : complete ready.cap ≡ Some whole)
+    → (let judged = ready.judged in ArePaired judged.world image whole) → (b : Break) → AnyBreaks input [] b → ⊥
+none_first hold input ready is image is_image whole whole_is paired b (on_first x) =
+    ready_unbroken hold input [] ready is b x
+none_first hold input ready is image is_image whole whole_is paired b (on_second none p) =
+    none_among b (subst (Among b) (ap (map (break_at 719)) paired) (of_pair hold input [] ready is image is_image whole
+    whole_is b p))
+
+-- components that are of the package, however they are told
+pub paired_by : (tree : CapTree) (c d : Complete) (world : Files) (image : StaticImage) → complete tree ≡ Some c
+    → complete tree ≡ Some d → ArePaired world image c → ArePaired world image d
+paired_by tree c d world image a b paired = subst (ArePaired world image) (the_same c d (sym a ∙ b)) paired

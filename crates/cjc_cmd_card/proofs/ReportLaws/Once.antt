@@ -1,10 +1,10 @@
 -- What is ready breaks no rule, and of the rules that are tested before 719 those of one rank have one refusal.
 use Rattle.std.proofs.Common.{◌≡◌, inl, inr, ℕ, ◌≤◌, List, [], ◌∷◌, Result, Some, Ok, Err, refl, sym, ap, subst, ◌∙◌}
 use Rattle.std.proofs.Common.{arith}
-use Rattle.cjc_card.specs.Bytes.Breaks.{Among, Break, after, foremost}
+use Rattle.cjc_cmd_check.specs.Bytes.Breaks.{Among, Break, after, foremost}
 use Rattle.cjc_cmd_check.proofs.BytesFirsts.{among_either}
-use Rattle.cjc_card.specs.Bytes.Order.{Rank}
-use Rattle.cjc_cmd_check.specs.CapRead.declared.tree.CapTree.{CapTree}
+use Rattle.cjc_cmd_check.specs.Bytes.Order.{Rank}
+use Rattle.cjc_card.specs.CapRead.declared.tree.CapTree.{CapTree}
 use Rattle.cjc_cmd_card.specs.Running.Ready.{Breaks, BreaksSentence, IsReady, of_package, of_parts, of_script}
 use Rattle.cjc_cmd_card.specs.Running.Ready.{of_sentences, tested}
 use Rattle.cjc_cmd_card.specs.declared.running.input.Input.{Input}
@@ -12,16 +12,16 @@ use Rattle.cjc_cmd_card.specs.declared.running.ready.Ready.{Ready}
 use Rattle.cjc_cmd_card.proofs.RunningLaws.Ranks.{package_rank, script_rank, sentence_rank}
 use Rattle.cjc_cmd_check.specs.Check.{sentence_breaks}
 use Rattle.cjc_cmd_check.proofs.CheckingLaws.OneAnswer.{OfComponent, in_cap, in_components, of_components}
-use Rattle.cjc_card.specs.ExportFile.declared.tree.ExportTree.{ExportTree}
+use Rattle.cjc_pairing.specs.ExportFile.declared.tree.ExportTree.{ExportTree}
 use Rattle.cjc_cmd_check.specs.Folder.Breaks.{break_in, component_breaks, component_place, part_breaks}
 use Rattle.cjc_cmd_check.specs.Folder.Reads.{read_component}
-use Rattle.cjc_shape.specs.Judge.Rules.{Breach}
-use Rattle.cjc_shape.specs.Judge.Spelt.{exports_of}
+use Rattle.cjc_cmd_jvm.specs.Judge.Rules.{Breach}
+use Rattle.cjc_cmd_jvm.specs.Judge.Spelt.{exports_of}
 use Rattle.cjc_shape.proofs.JudgeFirsts.{file_or_later, file_rule, one_spelling, all_spell}
 use Rattle.cjc_shape.proofs.JudgeOneRefusal.{one_refusal}
-use Rattle.cjc_pairing.specs.List.Listed.{ListTree}
+use Rattle.cjc_cmd_check.specs.List.Listed.{ListTree}
 use Rattle.cjc_cmd_jvm.specs.Running.Ready.{BreaksScript}
-use Rattle.cjc_card.specs.CheckRules.Consistent.{Consistent, Unbroken}
+use Rattle.cjc_pairing.specs.CheckRules.Consistent.{Consistent, Unbroken}
 use Rattle.cjc_cmd_check.proofs.BytesBrokenRules.{none_among}
 
 -- where components are consistent no sentence is broken

@@ -1,17 +1,17 @@
 -- What was read decides one answer.
 use Rattle.std.proofs.Common.{◌≡◌, ℕ, List, [], ◌∷◌, map, refl, sym, ap, subst}
 use Rattle.std.specs.Prelude.{Ok, Err}
-use Rattle.cjc_card.specs.Bytes.Breaks.{Among, Break, after, foremost}
-use Rattle.cjc_card.specs.Bytes.declared.fault.Refusal.{Refusal}
+use Rattle.cjc_cmd_check.specs.Bytes.Breaks.{Among, Break, after, foremost}
+use Rattle.cjc_cmd_check.specs.Bytes.declared.fault.Refusal.{Refusal}
 use Rattle.cjc_cmd_card.specs.Running.Ready.{Breaks}
 use Rattle.cjc_cmd_card.specs.declared.running.input.Input.{Input}
 use Rattle.cjc_cmd_card.proofs.ReportLaws.Once.{SentencesHold, one_break, ready_unbroken}
-use Rattle.cjc_cmd_jvm.specs.Shelf.declared.command.status.Todo.{Todo}
-use Rattle.cjc_shape.specs.Judge.Rules.{OnLevels, files_spelt, on_first, on_second}
+use Rattle.cjc_cmd_jvm.specs.LowerShelf.declared.command.status.Todo.{Todo}
+use Rattle.cjc_cmd_jvm.specs.Judge.Rules.{OnLevels, files_spelt, on_first, on_second}
 use Rattle.cjc_shape.proofs.JudgeOneRefusal.{one_first_of, one_on_levels}
-use Rattle.cjc_pairing.specs.Components.Paired.Pairs.{head_of, pair_breaks}
-use Rattle.cjc_card.specs.CheckRules.Consistent.{break_at}
-use Rattle.cjc_card.specs.CheckRules.declared.spot.ComponentPlace.{ComponentPlace}
+use Rattle.cjc_shape.specs.Components.Paired.Pairs.{head_of, pair_breaks}
+use Rattle.cjc_pairing.specs.CheckRules.Consistent.{break_at}
+use Rattle.cjc_pairing.specs.CheckRules.declared.spot.ComponentPlace.{ComponentPlace}
 use Rattle.cjc_cmd_card.specs.Report.Runs.{AnyBreaks, BreaksPair, Runs}
 use Rattle.cjc_cmd_card.proofs.ReportLaws.Free.{of_pair, one_pair}
 use Rattle.cjc_cmd_check.proofs.BytesBrokenRules.{none_among}

@@ -1,21 +1,21 @@
 -- What is run of a complete package.
 use Rattle.std.proofs.Common.{◌≡◌, ℕ, ◌+◌, List, [], ◌∷◌, length, map, refl, ap, ◌∙◌, Bool}
 use Rattle.std.specs.Prelude.{flat_map}
-use Rattle.cjc_card.specs.CardSemantics.Machine.Loaded.{OfFile}
-use Rattle.cjc_pairing.specs.CardLink.Group.{files_from}
-use Rattle.cjc_pairing.specs.CardLink.Names.{class_names_of}
-use Rattle.cjc_pairing.specs.CardLink.declared.names.ClassNames.{ClassNames}
-use Rattle.cjc_card.specs.CardFrame.Kinds.{cell_name_of}
-use Rattle.cjc_card.specs.CardFrame.declared.parts.kinds.CellName.{CellName}
-use Rattle.cjc_card.specs.ExportFile.declared.tree.ExportTree.{ExportTree}
-use Rattle.cjc_pairing.specs.Components.Paired.Naming as naming
-use Rattle.cjc_pairing.specs.Components.Paired.Naming.{cells_in, class_names, exported_in, loaded_of}
-use Rattle.cjc_card.specs.CheckRules.Complete.{Complete}
-use Rattle.cjc_pairing.specs.Tokens.Tokens.{assigned}
-use Rattle.cjc_card.specs.World.Classes.{all_classes}
-use Rattle.cjc_card.specs.World.Files.{Files}
-use Rattle.cjc_card.specs.World.Order.{class_order}
-use Rattle.cjc_card.specs.World.declared.image.StaticImage.{StaticImage}
+use Rattle.cjc_pairing.specs.CardSemantics.Machine.Loaded.{OfFile}
+use Rattle.cjc_card.specs.CardLink.Group.{files_from}
+use Rattle.cjc_card.specs.CardLink.Names.{class_names_of}
+use Rattle.cjc_card.specs.CardLink.declared.names.ClassNames.{ClassNames}
+use Rattle.cjc_pairing.specs.CardFrame.Kinds.{cell_name_of}
+use Rattle.cjc_pairing.specs.CardFrame.declared.parts.kinds.CellName.{CellName}
+use Rattle.cjc_pairing.specs.ExportFile.declared.tree.ExportTree.{ExportTree}
+use Rattle.cjc_shape.specs.Components.Paired.Naming as naming
+use Rattle.cjc_shape.specs.Components.Paired.Naming.{cells_in, class_names, exported_in, loaded_of}
+use Rattle.cjc_pairing.specs.CheckRules.Complete.{Complete}
+use Rattle.cjc_shape.specs.Tokens.Tokens.{assigned}
+use Rattle.cjc_pairing.specs.World.Classes.{all_classes}
+use Rattle.cjc_pairing.specs.World.Files.{Files}
+use Rattle.cjc_pairing.specs.World.Order.{class_order}
+use Rattle.cjc_pairing.specs.World.declared.image.StaticImage.{StaticImage}
 use Rattle.cjc_cmd_card.specs.Report.Working.{alone_with}
 
 files_numbered : (k : ℕ) (trees : List ExportTree) → files_from k (length trees) ≡ naming.files_from k trees

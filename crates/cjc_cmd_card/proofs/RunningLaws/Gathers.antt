@@ -1,23 +1,23 @@
 -- The reads of a list, its files, the components of a folder and a script, each behind those before it.
 use Rattle.std.proofs.Common.{◌≡◌, ℕ, ◌≤◌, List, length, refl, sym, ap, subst, ◌∙◌, arith, Result, Ok, Err}
 use Rattle.std.proofs.lemmas.List.{length-map}
-use Rattle.cjc_card.specs.Bytes.Refused.{IsUnlessNoMemory}
-use Rattle.cjc_card.specs.Bytes.declared.fault.Fault.TheVariants as faults
-use Rattle.cjc_card.specs.Bytes.declared.fault.Refusal.{Refusal}
-use Rattle.cjc_card.specs.Bytes.declared.settings.FileLine.{FileLine}
-use Rattle.cjc_cmd_jvm.specs.Shelf.Command.Gather.{Gathers, IsSame, AreShort}
-use Rattle.cjc_cmd_jvm.specs.Shelf.Command.Plan.{has, ◌>>=◌, read, read_each, unless_refused}
-use Rattle.cjc_cmd_jvm.specs.Shelf.declared.command.status.Status.{Status}
-use Rattle.cjc_cmd_jvm.specs.Shelf.declared.command.status.Status.TheVariants as status
+use Rattle.cjc_cmd_check.specs.Bytes.Refused.{IsUnlessNoMemory}
+use Rattle.cjc_cmd_check.specs.Bytes.declared.fault.Fault.TheVariants as faults
+use Rattle.cjc_cmd_check.specs.Bytes.declared.fault.Refusal.{Refusal}
+use Rattle.cjc_cmd_check.specs.Bytes.declared.settings.FileLine.{FileLine}
+use Rattle.cjc_cmd_jvm.specs.LowerShelf.Command.Gather.{Gathers, IsSame, AreShort}
+use Rattle.cjc_cmd_jvm.specs.LowerShelf.Command.Plan.{has, ◌>>=◌, read, read_each, unless_refused}
+use Rattle.cjc_cmd_jvm.specs.LowerShelf.declared.command.status.Status.{Status}
+use Rattle.cjc_cmd_jvm.specs.LowerShelf.declared.command.status.Status.TheVariants as status
 use Rattle.cjc_cmd_jvm.proofs.ShelfGathering.{gathers_then, gathers_end, gathers_has, gathers_refused}
 use Rattle.cjc_cmd_check.specs.Folder.Breaks.{ArePartsRead, ArePartsShort}
 use Rattle.cjc_cmd_check.specs.Folder.Reads.{plan_of_parts}
 use Rattle.cjc_cmd_check.specs.declared.folder.folder.Parts.{Parts}
-use Rattle.cjc_shape.specs.Judge.Spelt.{IsRead}
-use Rattle.cjc_pairing.specs.List.Listed.{ListTree, listed, answer}
+use Rattle.cjc_cmd_jvm.specs.Judge.Spelt.{IsRead}
+use Rattle.cjc_cmd_check.specs.List.Listed.{ListTree, listed, answer}
 use Rattle.cjc_cmd_jvm.specs.Running.Reads.{names_of}
 use Rattle.cjc_cmd_jvm.proofs.RunningLaws.Gathers.{answer_ok, answer_err, are_files}
-use Rattle.cjc_cmd_jvm.specs.Shelf.Shelf.{Shelved, longest_file}
+use Rattle.cjc_cmd_jvm.specs.LowerShelf.Shelf.{Shelved, longest_file}
 use Rattle.cjc_cmd_card.specs.declared.running.input.Input.{Input}
 use Rattle.cjc_cmd_card.specs.Running.Reads.{IsInput, plan_behind_files, plan_behind_list, plan_behind_parts}
 use Rattle.cjc_cmd_card.specs.Running.Reads.{plan_behind_text, plan_of_card}

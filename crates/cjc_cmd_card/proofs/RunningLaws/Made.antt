@@ -1,12 +1,12 @@
 -- From what was tested to what runs start from.
 use Rattle.std.proofs.Common.{◌≡◌, ℕ, List, [], sym, subst, Some, Ok}
-use Rattle.cjc_cmd_check.specs.CapRead.declared.tree.CapTree.{CapTree}
+use Rattle.cjc_card.specs.CapRead.declared.tree.CapTree.{CapTree}
 use Rattle.cjc_cmd_check.proofs.CheckingLaws.Sizes.{small_cap}
 use Rattle.cjc_cmd_check.specs.Folder.Breaks.{ArePartsShort, cap_in, part_breaks}
-use Rattle.cjc_shape.specs.Judge.Judged.{IsJudged}
-use Rattle.cjc_shape.specs.Judge.declared.judged.Judged.{Judged}
-use Rattle.cjc_cmd_jvm.specs.ScriptText.Scripted.{ScriptTree, scripted}
-use Rattle.cjc_card.specs.CheckRules.Consistent.{Consistent}
+use Rattle.cjc_cmd_jvm.specs.Judge.Judged.{IsJudged}
+use Rattle.cjc_cmd_jvm.specs.Judge.declared.judged.Judged.{Judged}
+use Rattle.cjc_cmd_jvm.specs.LowerScriptText.Scripted.{ScriptTree, scripted}
+use Rattle.cjc_pairing.specs.CheckRules.Consistent.{Consistent}
 use Rattle.cjc_cmd_card.specs.declared.running.input.Input.{Input}
 use Rattle.cjc_cmd_card.specs.declared.running.ready.Ready.{Ready}
 use Rattle.cjc_cmd_card.specs.Running.Ready.{IsReady, tested}

@@ -1,27 +1,27 @@
 -- The first of what a package, components and a script break.
 use Rattle.std.proofs.Common.{◌≡◌, ◌⊎◌, inl, inr, ℕ, ◌+◌, ◌<◌, ◌≤◌, ◌^◌, List, [], refl, sym, ap, subst, ◌∙◌, arith}
 use Rattle.std.proofs.Common.{Option, Some, Result, Ok, Err, IfErr}
-use Rattle.cjc_card.specs.Bytes.Breaks.{Break, Among, IsFirstRefusal}
-use Rattle.cjc_card.specs.Bytes.Order.{NotAfter, numbers}
-use Rattle.cjc_card.specs.Bytes.Refused.{IsUnlessNoMemory}
-use Rattle.cjc_card.specs.Bytes.declared.fault.Fault.{Fault}
-use Rattle.cjc_card.specs.Bytes.declared.fault.Fault.TheVariants as faults
-use Rattle.cjc_card.specs.Bytes.declared.fault.Refusal.{Refusal}
+use Rattle.cjc_cmd_check.specs.Bytes.Breaks.{Break, Among, IsFirstRefusal}
+use Rattle.cjc_cmd_check.specs.Bytes.Order.{NotAfter, numbers}
+use Rattle.cjc_cmd_check.specs.Bytes.Refused.{IsUnlessNoMemory}
+use Rattle.cjc_cmd_check.specs.Bytes.declared.fault.Fault.{Fault}
+use Rattle.cjc_cmd_check.specs.Bytes.declared.fault.Fault.TheVariants as faults
+use Rattle.cjc_cmd_check.specs.Bytes.declared.fault.Refusal.{Refusal}
 use Rattle.cjc_cmd_check.proofs.BytesFirsts.{upto_refl}
-use Rattle.cjc_cmd_check.specs.CapRead.declared.tree.CapTree.{CapTree}
+use Rattle.cjc_card.specs.CapRead.declared.tree.CapTree.{CapTree}
 use Rattle.cjc_cmd_check.specs.Check.{sentence_breaks}
-use Rattle.cjc_card.specs.ExportFile.declared.tree.ExportTree.{ExportTree}
+use Rattle.cjc_pairing.specs.ExportFile.declared.tree.ExportTree.{ExportTree}
 use Rattle.cjc_cmd_check.specs.Folder.Breaks.{ArePartsRead, cap_in, part_breaks}
-use Rattle.cjc_shape.specs.Judge.Judged.{IsJudged, IsStopped}
-use Rattle.cjc_shape.specs.Judge.Rules.{Breach, BreaksFile, IsFirstRefused, IsFirstFault, of_file}
-use Rattle.cjc_shape.specs.Judge.Spelt.{FileTree, IsRead, SpellTrees, exports_of}
-use Rattle.cjc_shape.specs.Judge.declared.judged.Judged.{Judged}
+use Rattle.cjc_cmd_jvm.specs.Judge.Judged.{IsJudged, IsStopped}
+use Rattle.cjc_cmd_jvm.specs.Judge.Rules.{Breach, BreaksFile, IsFirstRefused, IsFirstFault, of_file}
+use Rattle.cjc_cmd_jvm.specs.Judge.Spelt.{FileTree, IsRead, SpellTrees, exports_of}
+use Rattle.cjc_cmd_jvm.specs.Judge.declared.judged.Judged.{Judged}
 use Rattle.cjc_shape.proofs.JudgeEarly.{fault_from}
 use Rattle.cjc_shape.proofs.JudgeFirsts.{all_spell, one_spelling}
-use Rattle.cjc_pairing.specs.List.Listed.{answer}
+use Rattle.cjc_cmd_check.specs.List.Listed.{answer}
 use Rattle.cjc_cmd_jvm.specs.Running.Ready.{script_break, BreaksScript}
-use Rattle.cjc_cmd_jvm.specs.ScriptText.Scripted.{ScriptTree, scripted}
-use Rattle.cjc_card.specs.CheckRules.Consistent.{breaks}
+use Rattle.cjc_cmd_jvm.specs.LowerScriptText.Scripted.{ScriptTree, scripted}
+use Rattle.cjc_pairing.specs.CheckRules.Consistent.{breaks}
 use Rattle.cjc_cmd_card.specs.declared.running.input.Input.{Input}
 use Rattle.cjc_cmd_card.specs.Running.Reads.{IsInput}
 use Rattle.cjc_cmd_card.specs.Running.Ready.{BreaksSentence, Breaks, of_package, of_parts, of_script, of_sentences}

@@ -2,30 +2,30 @@
 use Rattle.std.proofs.Common.{◌≡◌, inl, inr, ℕ, ◌+◌, ◌≤◌, ◌^◌, ◌/◌, List, [], ◌∷◌, Bool, true, false, refl, ap, arith}
 use Rattle.std.proofs.Common.{Option, Some, None, map}
 use Rattle.std.specs.Prelude.{flat_map, if◌then◌else◌, slice_get}
-use Rattle.cjc_card.specs.Bytes.Breaks.{Break, Among, foremost, after}
+use Rattle.cjc_cmd_check.specs.Bytes.Breaks.{Break, Among, foremost, after}
 use Rattle.cjc_cmd_check.proofs.BytesFirsts.{among_either}
-use Rattle.cjc_cmd_check.specs.CapRead.declared.tree.CapTree.{CapTree}
+use Rattle.cjc_card.specs.CapRead.declared.tree.CapTree.{CapTree}
 use Rattle.cjc_cmd_check.specs.Check.{sentence_breaks}
-use Rattle.cjc_shape.specs.Clinit.Rules.{of_class, of_code}
-use Rattle.cjc_pairing.specs.Bytecode.PackageCodes.{all_codes}
-use Rattle.cjc_card.specs.ExportFile.declared.tree.ExportTree.{ExportTree}
+use Rattle.cjc_pairing.specs.Clinit.Rules.{of_class, of_code}
+use Rattle.cjc_card.specs.Bytecode.PackageCodes.{all_codes}
+use Rattle.cjc_pairing.specs.ExportFile.declared.tree.ExportTree.{ExportTree}
 use Rattle.cjc_cmd_check.specs.declared.folder.folder.Parts.{Parts}
-use Rattle.cjc_shape.specs.Judge.Codes.{all_unsupported_insns}
-use Rattle.cjc_shape.specs.Judge.Rules.{Breach, BreaksGroup, of_file, of_world, of_names, of_group, files_spelt}
-use Rattle.cjc_shape.specs.Judge.Rules.{has_applets}
-use Rattle.cjc_shape.specs.Judge.Rules.{settings_of}
-use Rattle.cjc_shape.specs.Judge.Spelt.{classes_of}
-use Rattle.cjc_shape.specs.Judge.Types.{asks_types}
-use Rattle.cjc_shape.specs.Judge.declared.groups.Group.{Group}
-use Rattle.cjc_shape.specs.Judge.declared.groups.Group.TheVariants as groups
+use Rattle.cjc_cmd_jvm.specs.Judge.Codes.{all_unsupported_insns}
+use Rattle.cjc_cmd_jvm.specs.Judge.Rules.{Breach, BreaksGroup, of_file, of_world, of_names, of_group, files_spelt}
+use Rattle.cjc_cmd_jvm.specs.Judge.Rules.{has_applets}
+use Rattle.cjc_cmd_jvm.specs.Judge.Rules.{settings_of}
+use Rattle.cjc_cmd_jvm.specs.Judge.Spelt.{classes_of}
+use Rattle.cjc_cmd_jvm.specs.Judge.Types.{asks_types}
+use Rattle.cjc_cmd_jvm.specs.Judge.declared.groups.Group.{Group}
+use Rattle.cjc_cmd_jvm.specs.Judge.declared.groups.Group.TheVariants as groups
 use Rattle.cjc_shape.proofs.JudgeEarly.{asked}
 use Rattle.cjc_shape.proofs.JudgeFamilies.{unsupported_insns_third, checks_language, tokens_fourth}
 use Rattle.cjc_shape.proofs.JudgeFirsts.{file_family, world_family, names_family}
-use Rattle.cjc_pairing.specs.List.Listed.{ListTree}
+use Rattle.cjc_cmd_check.specs.List.Listed.{ListTree}
 use Rattle.cjc_cmd_jvm.specs.Running.Ready.{BreaksScript}
-use Rattle.cjc_card.specs.CheckRules.Complete.{Complete, complete}
-use Rattle.cjc_card.specs.CheckRules.Consistent.{Sentence, break_at, breaks_of, sentences, where_complete}
-use Rattle.cjc_card.specs.CheckRules.declared.spot.ComponentPlace.{ComponentPlace}
+use Rattle.cjc_pairing.specs.CheckRules.Complete.{Complete, complete}
+use Rattle.cjc_pairing.specs.CheckRules.Consistent.{Sentence, break_at, breaks_of, sentences, where_complete}
+use Rattle.cjc_pairing.specs.CheckRules.declared.spot.ComponentPlace.{ComponentPlace}
 use Rattle.cjc_cmd_card.specs.Running.Ready.{BreaksSentence, tested}
 
 -- ---- the package: one line a group

@@ -2,32 +2,32 @@
 use Rattle.std.proofs.Common.{◌≡◌, ℕ, zero, suc, ◌+◌, ◌*◌, ◌/◌, ◌^◌, ◌<◌, ◌==◌, Bool, true, false, List, [], ◌∷◌, ◌++◌}
 use Rattle.std.proofs.Common.{length, get_or, refl, sym, ap, subst, ◌∙◌, arith, Option, Some, None, Result, Ok, Err}
 use Rattle.std.specs.Prelude.{◌||◌, not}
-use Rattle.cjc_card.specs.Bytes.Format.{Format, Spells, repeated, u2}
+use Rattle.cjc_cmd_check.specs.Bytes.Format.{Format, Spells, repeated, u2}
 use Rattle.cjc_cmd_check.proofs.BytesLaws.{file_ok}
-use Rattle.cjc_cmd_check.specs.CapRead.Component.{component, info}
-use Rattle.cjc_cmd_check.specs.CapRead.Directory.{directory}
-use Rattle.cjc_cmd_check.specs.CapRead.declared.tree.CapTree.{CapTree}
-use Rattle.cjc_cmd_check.specs.CapRead.declared.tree.Component.{Component}
-use Rattle.cjc_cmd_check.specs.CapRead.declared.tree.Component.TheVariants as components
-use Rattle.cjc_cmd_check.specs.CapRead.declared.tree.Directory.{Directory}
-use Rattle.cjc_cmd_check.specs.CapRead.declared.tree.ClassInfo.{ClassInfo}
-use Rattle.cjc_cmd_check.specs.CapRead.declared.tree.ConstantPool.{ConstantPool}
-use Rattle.cjc_cmd_check.specs.CapRead.declared.tree.Descriptor.{Descriptor}
-use Rattle.cjc_cmd_check.specs.CapRead.declared.tree.Import.{Import}
-use Rattle.cjc_cmd_check.specs.CapRead.declared.tree.Method.{Method}
-use Rattle.cjc_cmd_check.specs.CapRead.declared.tree.ReferenceLocation.{ReferenceLocation}
-use Rattle.cjc_cmd_check.specs.CapRead.declared.tree.StaticField.{StaticField}
-use Rattle.cjc_card.specs.ExportFile.declared.tree.ExportTree.{ExportTree}
+use Rattle.cjc_card.specs.CapRead.Component.{component, info}
+use Rattle.cjc_card.specs.CapRead.Directory.{directory}
+use Rattle.cjc_card.specs.CapRead.declared.tree.CapTree.{CapTree}
+use Rattle.cjc_card.specs.CapRead.declared.tree.Component.{Component}
+use Rattle.cjc_card.specs.CapRead.declared.tree.Component.TheVariants as components
+use Rattle.cjc_card.specs.CapRead.declared.tree.Directory.{Directory}
+use Rattle.cjc_card.specs.CapRead.declared.tree.ClassInfo.{ClassInfo}
+use Rattle.cjc_card.specs.CapRead.declared.tree.ConstantPool.{ConstantPool}
+use Rattle.cjc_card.specs.CapRead.declared.tree.Descriptor.{Descriptor}
+use Rattle.cjc_card.specs.CapRead.declared.tree.Import.{Import}
+use Rattle.cjc_card.specs.CapRead.declared.tree.Method.{Method}
+use Rattle.cjc_card.specs.CapRead.declared.tree.ReferenceLocation.{ReferenceLocation}
+use Rattle.cjc_card.specs.CapRead.declared.tree.StaticField.{StaticField}
+use Rattle.cjc_pairing.specs.ExportFile.declared.tree.ExportTree.{ExportTree}
 use Rattle.cjc_cmd_check.specs.Folder.Breaks.{cap_in, cap_of, front, with_component, with_components, with_read}
 use Rattle.cjc_cmd_check.specs.Folder.Reads.{read_component}
 use Rattle.cjc_cmd_check.specs.declared.folder.folder.Parts.{Parts}
-use Rattle.cjc_card.specs.CheckRules.Complete.{AreSmall, Complete, IsSmall, class_info_size, complete, complete_with}
-use Rattle.cjc_card.specs.CheckRules.Complete.{descriptor_size, import_size, locations_size, method_size, pool_size}
-use Rattle.cjc_card.specs.CheckRules.Complete.{size_items, size_of, statics_size}
-use Rattle.cjc_card.specs.CheckRules.Consistent.{Consistent, is_true}
-use Rattle.cjc_card.specs.CheckRules.Listed.{directory_spots, may_be_absent, size_agrees, size_spots}
-use Rattle.cjc_card.specs.CheckRules.Spots.{beside, unless}
-use Rattle.cjc_card.specs.CheckRules.declared.spot.ComponentPlace.{ComponentPlace}
+use Rattle.cjc_pairing.specs.CheckRules.Complete.{AreSmall, Complete, IsSmall, class_info_size, complete, complete_with}
+use Rattle.cjc_pairing.specs.CheckRules.Complete.{descriptor_size, import_size, locations_size, method_size, pool_size}
+use Rattle.cjc_pairing.specs.CheckRules.Complete.{size_items, size_of, statics_size}
+use Rattle.cjc_pairing.specs.CheckRules.Consistent.{Consistent, is_true}
+use Rattle.cjc_pairing.specs.CheckRules.Listed.{directory_spots, may_be_absent, size_agrees, size_spots}
+use Rattle.cjc_pairing.specs.CheckRules.Spots.{beside, unless}
+use Rattle.cjc_pairing.specs.CheckRules.declared.spot.ComponentPlace.{ComponentPlace}
 use Rattle.cjc_cmd_check.proofs.BytesBools.{by_if, both_front, both_back}
 
 -- ---- Directory has twelve sizes

@@ -2,27 +2,27 @@
 -- class files that a
 -- list names.
 use Rattle.std.specs.Prelude.{◌≡◌, ℕ, List, [], ◌∷◌, Some, Result, Ok, Err}
-use Rattle.cjc_card.specs.Bytes.Breaks.{Among, Break}
-use Rattle.cjc_card.specs.Bytes.declared.fault.Refusal.{Refusal}
-use Rattle.cjc_cmd_check.specs.CapRead.declared.tree.CapTree.{CapTree}
-use Rattle.cjc_card.specs.CardSemantics.Machine.ByToken.{run}
+use Rattle.cjc_cmd_check.specs.Bytes.Breaks.{Among, Break}
+use Rattle.cjc_cmd_check.specs.Bytes.declared.fault.Refusal.{Refusal}
+use Rattle.cjc_card.specs.CapRead.declared.tree.CapTree.{CapTree}
+use Rattle.cjc_pairing.specs.CardSemantics.Machine.ByToken.{run}
 use Rattle.cjc_cmd_card.specs.Running.Reads.{plan_of_card}
 use Rattle.cjc_cmd_card.specs.Running.Ready.{Breaks, IsReady}
 use Rattle.cjc_cmd_card.specs.declared.running.input.Input.{Input}
 use Rattle.cjc_cmd_card.specs.declared.running.ready.Ready.{Ready}
-use Rattle.cjc_shape.specs.Clinit.Image.{IsImage}
-use Rattle.cjc_pairing.specs.Bytecode.PackageCodes.{all_codes}
-use Rattle.cjc_cmd_jvm.specs.Shelf.Command.Plan.{Plan, has, ◌>>=◌}
-use Rattle.cjc_cmd_jvm.specs.Shelf.declared.command.status.Todo.{Todo}
+use Rattle.cjc_pairing.specs.Clinit.Image.{IsImage}
+use Rattle.cjc_card.specs.Bytecode.PackageCodes.{all_codes}
+use Rattle.cjc_cmd_jvm.specs.LowerShelf.Command.Plan.{Plan, has, ◌>>=◌}
+use Rattle.cjc_cmd_jvm.specs.LowerShelf.declared.command.status.Todo.{Todo}
 use Rattle.cjc_cmd_check.specs.Folder.Breaks.{cap_in}
-use Rattle.cjc_shape.specs.Judge.Rules.{IsFirstRefused, OnLevels, files_spelt, has_applets}
-use Rattle.cjc_shape.specs.Judge.Spelt.{FileTree, SpellTrees, classes_of}
-use Rattle.cjc_pairing.specs.Components.Paired.Naming.{loaded_of}
-use Rattle.cjc_pairing.specs.Components.Paired.Pairs.{ArePaired, pair_breaks}
-use Rattle.cjc_card.specs.Script.declared.report.Report.{Report}
-use Rattle.cjc_cmd_jvm.specs.ScriptText.Printed.{report_text}
-use Rattle.cjc_card.specs.CheckRules.Complete.{Complete, complete}
-use Rattle.cjc_card.specs.World.declared.image.StaticImage.{StaticImage}
+use Rattle.cjc_cmd_jvm.specs.Judge.Rules.{IsFirstRefused, OnLevels, files_spelt, has_applets}
+use Rattle.cjc_cmd_jvm.specs.Judge.Spelt.{FileTree, SpellTrees, classes_of}
+use Rattle.cjc_shape.specs.Components.Paired.Naming.{loaded_of}
+use Rattle.cjc_shape.specs.Components.Paired.Pairs.{ArePaired, pair_breaks}
+use Rattle.cjc_pairing.specs.Script.declared.report.Report.{Report}
+use Rattle.cjc_cmd_jvm.specs.LowerScriptText.Printed.{report_text}
+use Rattle.cjc_pairing.specs.CheckRules.Complete.{Complete, complete}
+use Rattle.cjc_pairing.specs.World.declared.image.StaticImage.{StaticImage}
 
 -- the list of this name, its files, the components of the folder, and the script
 abbrev pub plan_of_report : (name dir script : List ℕ) → Plan Input

@@ -1,21 +1,21 @@
 -- The components that are run, as they are kept.
 use Rattle.std.specs.Prelude.{◌≡◌, ◌⊎◌, List, [], ◌∷◌, length, map, Some}
-use Rattle.cjc_card.specs.Bytes.Breaks.{IsFirstRefusal}
-use Rattle.cjc_card.specs.Bytes.declared.fault.Fault.{Fault}
-use Rattle.cjc_card.specs.Bytes.declared.fault.Fault.TheVariants as faults
-use Rattle.cjc_card.specs.CardSemantics.Machine.Loaded.{Loaded}
-use Rattle.cjc_pairing.specs.CardLink.Group.{files_from}
-use Rattle.cjc_pairing.specs.CardLink.Names.{class_names_of}
-use Rattle.cjc_pairing.specs.CardLink.declared.names.ClassNames.{ClassNames}
-use Rattle.cjc_card.specs.CardFrame.Kinds.{cell_name_of}
-use Rattle.cjc_card.specs.CardFrame.declared.parts.kinds.CellName.{CellName}
+use Rattle.cjc_cmd_check.specs.Bytes.Breaks.{IsFirstRefusal}
+use Rattle.cjc_cmd_check.specs.Bytes.declared.fault.Fault.{Fault}
+use Rattle.cjc_cmd_check.specs.Bytes.declared.fault.Fault.TheVariants as faults
+use Rattle.cjc_pairing.specs.CardSemantics.Machine.Loaded.{Loaded}
+use Rattle.cjc_card.specs.CardLink.Group.{files_from}
+use Rattle.cjc_card.specs.CardLink.Names.{class_names_of}
+use Rattle.cjc_card.specs.CardLink.declared.names.ClassNames.{ClassNames}
+use Rattle.cjc_pairing.specs.CardFrame.Kinds.{cell_name_of}
+use Rattle.cjc_pairing.specs.CardFrame.declared.parts.kinds.CellName.{CellName}
 use Rattle.cjc_cmd_card.specs.declared.running.ready.Ready.{Ready}
-use Rattle.cjc_shape.specs.Clinit.Image.{IsImage}
-use Rattle.cjc_card.specs.ExportFile.declared.tree.ExportTree.{ExportTree}
-use Rattle.cjc_pairing.specs.Components.Paired.Naming.{exported_in}
-use Rattle.cjc_pairing.specs.Components.Paired.Pairs.{pair_breaks}
-use Rattle.cjc_card.specs.CheckRules.Complete.{Complete, complete}
-use Rattle.cjc_card.specs.World.declared.image.StaticImage.{StaticImage}
+use Rattle.cjc_pairing.specs.Clinit.Image.{IsImage}
+use Rattle.cjc_pairing.specs.ExportFile.declared.tree.ExportTree.{ExportTree}
+use Rattle.cjc_shape.specs.Components.Paired.Naming.{exported_in}
+use Rattle.cjc_shape.specs.Components.Paired.Pairs.{pair_breaks}
+use Rattle.cjc_pairing.specs.CheckRules.Complete.{Complete, complete}
+use Rattle.cjc_pairing.specs.World.declared.image.StaticImage.{StaticImage}
 
 -- components with names, alone with the export files that they import
 abbrev pub alone_with : Complete → List ClassNames → List CellName → List ExportTree → Loaded

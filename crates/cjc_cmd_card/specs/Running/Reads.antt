@@ -1,11 +1,11 @@
 -- What is read where components are to be run: a list, its files, the components of a folder, and a script.
 use Rattle.std.specs.Prelude.{◌≡◌, ◌<◌, ◌^◌, ℕ, List, length}
-use Rattle.cjc_cmd_jvm.specs.Shelf.Command.Plan.{Plan, has, ◌>>=◌, read, read_each, unless_refused}
+use Rattle.cjc_cmd_jvm.specs.LowerShelf.Command.Plan.{Plan, has, ◌>>=◌, read, read_each, unless_refused}
 use Rattle.cjc_cmd_check.specs.Folder.Breaks.{ArePartsRead, ArePartsShort}
 use Rattle.cjc_cmd_check.specs.Folder.Reads.{plan_of_parts}
 use Rattle.cjc_cmd_check.specs.declared.folder.folder.Parts.{Parts}
-use Rattle.cjc_shape.specs.Judge.Spelt.{IsRead, AreFiles}
-use Rattle.cjc_pairing.specs.List.Listed.{ListTree, listed}
+use Rattle.cjc_cmd_jvm.specs.Judge.Spelt.{IsRead, AreFiles}
+use Rattle.cjc_cmd_check.specs.List.Listed.{ListTree, listed}
 use Rattle.cjc_cmd_jvm.specs.Running.Reads.{names_of}
 use Rattle.cjc_cmd_card.specs.declared.running.input.Input.{Input}
 

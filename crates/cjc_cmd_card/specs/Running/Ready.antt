@@ -2,20 +2,20 @@
 -- tokens, components
 -- that are consistent with its export files, and a script.
 use Rattle.std.specs.Prelude.{◌≡◌, ℕ, List, [], ◌∷◌, Some, Ok}
-use Rattle.cjc_card.specs.Bytes.Breaks.{Break, Among}
+use Rattle.cjc_cmd_check.specs.Bytes.Breaks.{Break, Among}
 use Rattle.cjc_cmd_check.specs.Check.{sentence_breaks}
 use Rattle.cjc_cmd_check.specs.Folder.Breaks.{cap_in, part_breaks}
 use Rattle.cjc_cmd_check.specs.declared.folder.folder.Parts.{Parts}
-use Rattle.cjc_shape.specs.Judge.Judged.{IsJudged}
-use Rattle.cjc_shape.specs.Judge.Rules.{Breach}
-use Rattle.cjc_shape.specs.Judge.Spelt.{FileTree, SpellTrees, exports_of}
-use Rattle.cjc_shape.specs.Judge.declared.groups.Group.{Group}
-use Rattle.cjc_shape.specs.Judge.declared.groups.Group.TheVariants as groups
-use Rattle.cjc_pairing.specs.List.Listed.{ListTree}
+use Rattle.cjc_cmd_jvm.specs.Judge.Judged.{IsJudged}
+use Rattle.cjc_cmd_jvm.specs.Judge.Rules.{Breach}
+use Rattle.cjc_cmd_jvm.specs.Judge.Spelt.{FileTree, SpellTrees, exports_of}
+use Rattle.cjc_cmd_jvm.specs.Judge.declared.groups.Group.{Group}
+use Rattle.cjc_cmd_jvm.specs.Judge.declared.groups.Group.TheVariants as groups
+use Rattle.cjc_cmd_check.specs.List.Listed.{ListTree}
 use Rattle.cjc_cmd_jvm.specs.Running.Ready.{BreaksScript}
-use Rattle.cjc_cmd_jvm.specs.ScriptText.Scripted.{scripted}
-use Rattle.cjc_card.specs.CheckRules.Complete.{AreSmall, Complete, complete}
-use Rattle.cjc_card.specs.CheckRules.Consistent.{Consistent}
+use Rattle.cjc_cmd_jvm.specs.LowerScriptText.Scripted.{scripted}
+use Rattle.cjc_pairing.specs.CheckRules.Complete.{AreSmall, Complete, complete}
+use Rattle.cjc_pairing.specs.CheckRules.Consistent.{Consistent}
 use Rattle.cjc_cmd_card.specs.declared.running.input.Input.{Input}
 use Rattle.cjc_cmd_card.specs.declared.running.ready.Ready.{Ready}
 

@@ -1,8 +1,8 @@
 //! What holds of the answers to all that is read. It has no code that runs.
 
 ghost use Rattle.std.specs.Prelude.{◌≡◌, List, ℕ, Ok, Err};
-ghost use Rattle.cjc_card.specs.Bytes.declared.fault.Refusal.{Refusal};
-ghost use Rattle.cjc_cmd_jvm.specs.Shelf.declared.command.status.Todo.{Todo};
+ghost use Rattle.cjc_cmd_check.specs.Bytes.declared.fault.Refusal.{Refusal};
+ghost use Rattle.cjc_cmd_jvm.specs.LowerShelf.declared.command.status.Todo.{Todo};
 ghost use Rattle.cjc_cmd_card.specs.Report.Runs.{Runs};
 ghost use Rattle.cjc_cmd_card.specs.declared.running.input.Input.{Input};
 

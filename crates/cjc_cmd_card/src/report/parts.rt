@@ -1,11 +1,11 @@
 //! The components of a package with names, as they are run. Called by reporting.rt.
 
 ghost use Rattle.std.specs.Prelude.{◌≡◌, List as Items};
-ghost use Rattle.cjc_pairing.specs.CardLink.Group.{alone};
+ghost use Rattle.cjc_card.specs.CardLink.Group.{alone};
 ghost use Rattle.cjc_cmd_card.specs.Report.Working.{alone_with};
-ghost use Rattle.cjc_card.specs.ExportFile.declared.tree.ExportTree.{ExportTree as Tree};
-ghost use Rattle.cjc_card.specs.CheckIndex.Lookup.Parts.{complete_of};
-ghost use Rattle.cjc_pairing.specs.Components.Paired.Naming.{exported_in};
+ghost use Rattle.cjc_pairing.specs.ExportFile.declared.tree.ExportTree.{ExportTree as Tree};
+ghost use Rattle.cjc_pairing.specs.CheckIndex.Lookup.Parts.{complete_of};
+ghost use Rattle.cjc_shape.specs.Components.Paired.Naming.{exported_in};
 
 use cjc_card::card_frame::parts::CellName;
 use cjc_card::check_index::lookup::Parts;

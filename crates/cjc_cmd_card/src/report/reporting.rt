@@ -1,15 +1,15 @@
 //! The report of a run by token. Called by running.rt, and by the command that sums up two runs. It reads no file.
 
 ghost use Rattle.std.specs.Prelude.{◌≡◌, ◌<◌, ◌^◌, List as Items, ℕ, Some, IfErr, IfOk};
-ghost use Rattle.cjc_card.specs.CardSemantics.Machine.ByToken.{run as run_by_token};
+ghost use Rattle.cjc_pairing.specs.CardSemantics.Machine.ByToken.{run as run_by_token};
 ghost use Rattle.cjc_cmd_card.specs.Report.Runs.{IsReport};
 ghost use Rattle.cjc_cmd_card.specs.Report.Working.{IsPairFault, alone_with};
 ghost use Rattle.cjc_cmd_card.specs.Running.Ready.{IsReady};
 ghost use Rattle.cjc_cmd_card.specs.declared.running.input.Input.{Input as Given};
-ghost use Rattle.cjc_shape.specs.Judge.Rules.{has_applets};
-ghost use Rattle.cjc_pairing.specs.Components.Paired.Naming.{loaded_of};
-ghost use Rattle.cjc_card.specs.CheckIndex.Lookup.Parts.{complete_of};
-ghost use Rattle.cjc_card.specs.CheckRules.Complete.{AreSmall, class_info_size, complete};
+ghost use Rattle.cjc_cmd_jvm.specs.Judge.Rules.{has_applets};
+ghost use Rattle.cjc_shape.specs.Components.Paired.Naming.{loaded_of};
+ghost use Rattle.cjc_pairing.specs.CheckIndex.Lookup.Parts.{complete_of};
+ghost use Rattle.cjc_pairing.specs.CheckRules.Complete.{AreSmall, class_info_size, complete};
 
 use crate::report::parts::part_of;
 use crate::running::{Input, Ready};

@@ -1,11 +1,11 @@
 //! What `card LIST DIR SCRIPT N` reads and prints. The program's top call calls it. Nothing here writes.
 
 ghost use Rattle.std.specs.Prelude.{IfErr, IfOk};
-ghost use Rattle.cjc_cmd_jvm.specs.Shelf.Command.Gather.{Gathers, Judged};
+ghost use Rattle.cjc_cmd_jvm.specs.LowerShelf.Command.Gather.{Gathers, Judged};
 ghost use Rattle.cjc_cmd_card.specs.Report.Runs.{AnyBreaks, IsRun, Runs, plan_of_report};
 ghost use Rattle.cjc_cmd_card.specs.Running.Reads.{IsInput};
 ghost use Rattle.cjc_cmd_card.specs.Running.Ready.{IsReady};
-ghost use Rattle.cjc_shape.specs.Judge.Rules.{IsFirstFault};
+ghost use Rattle.cjc_cmd_jvm.specs.Judge.Rules.{IsFirstFault};
 
 use crate::report::reporting::report_of;
 use crate::running::{Input, Ready, gather_input, make_ready};

@@ -2,8 +2,8 @@
 //! Nothing here writes.
 
 ghost use Rattle.std.specs.Prelude.{◌<◌, IfOk, length};
-ghost use Rattle.cjc_cmd_jvm.specs.Shelf.Command.Gather.{Gathers, IsSame};
-ghost use Rattle.cjc_shape.specs.Judge.Spelt.{IsRead};
+ghost use Rattle.cjc_cmd_jvm.specs.LowerShelf.Command.Gather.{Gathers, IsSame};
+ghost use Rattle.cjc_cmd_jvm.specs.Judge.Spelt.{IsRead};
 ghost use Rattle.cjc_cmd_card.specs.Running.Reads.{IsInput, plan_behind_list, plan_behind_text, plan_of_card};
 
 use crate::running::input::Input;

@@ -3,13 +3,13 @@
 //! say together.
 
 ghost use Rattle.std.specs.Prelude.{◌≡◌, [], Some, Ok, IfOk, IfErr, OnOk};
-ghost use Rattle.cjc_card.specs.Bytes.Breaks.{Break as Broken, IsFirstRefusal};
+ghost use Rattle.cjc_cmd_check.specs.Bytes.Breaks.{Break as Broken, IsFirstRefusal};
 ghost use Rattle.cjc_cmd_check.specs.Folder.Breaks.{cap_in, part_breaks};
-ghost use Rattle.cjc_shape.specs.Judge.Judged.{IsJudged};
-ghost use Rattle.cjc_shape.specs.Judge.Rules.{BreaksFile, IsFirstFault};
-ghost use Rattle.cjc_cmd_jvm.specs.ScriptText.Scripted.{ScriptTree, scripted};
-ghost use Rattle.cjc_card.specs.CheckRules.Complete.{IsSmall};
-ghost use Rattle.cjc_card.specs.CheckRules.Consistent.{Consistent, breaks};
+ghost use Rattle.cjc_cmd_jvm.specs.Judge.Judged.{IsJudged};
+ghost use Rattle.cjc_cmd_jvm.specs.Judge.Rules.{BreaksFile, IsFirstFault};
+ghost use Rattle.cjc_cmd_jvm.specs.LowerScriptText.Scripted.{ScriptTree, scripted};
+ghost use Rattle.cjc_pairing.specs.CheckRules.Complete.{IsSmall};
+ghost use Rattle.cjc_pairing.specs.CheckRules.Consistent.{Consistent, breaks};
 ghost use Rattle.cjc_cmd_card.specs.Running.Reads.{IsInput};
 ghost use Rattle.cjc_cmd_card.specs.Running.Ready.{Breaks, IsReady, tested};
 

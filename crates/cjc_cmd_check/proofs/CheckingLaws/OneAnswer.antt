@@ -10,14 +10,14 @@ use Rattle.cjc_bytes.proofs.BrokenRules.{none_among}
 use Rattle.cjc_bytes.proofs.Lists.{same_rank}
 use Rattle.cjc_capread.specs.declared.tree.CapTree.{CapTree}
 use Rattle.cjc_shelf.specs.declared.command.status.Todo.{Todo}
-use Rattle.cjc_check.specs.ExportFile.declared.tree.ExportTree.{ExportTree}
+use Rattle.cjc_check.specs.LowerExportFile.declared.tree.ExportTree.{ExportTree}
 use Rattle.cjc_cmd_check.specs.Folder.Breaks.{break_in, cap_in, component_breaks, component_place, export_breaks}
 use Rattle.cjc_cmd_check.specs.Folder.Breaks.{export_trees, file_breaks, file_spot, part_breaks, unless_broken}
 use Rattle.cjc_cmd_check.specs.Folder.Reads.{export_places, read_component}
 use Rattle.cjc_cmd_check.specs.declared.folder.folder.Folder.{Folder}
 use Rattle.cjc_cmd_check.proofs.FolderLaws.Ordered.{AreOrdered, exports_ordered}
-use Rattle.cjc_check.specs.CheckRules.Consistent.{Sentence, break_at, breaks, breaks_of, sentences}
-use Rattle.cjc_check.specs.CheckRules.declared.spot.ComponentPlace.{ComponentPlace}
+use Rattle.cjc_check.specs.LowerCheckRules.Consistent.{Sentence, break_at, breaks, breaks_of, sentences}
+use Rattle.cjc_check.specs.LowerCheckRules.declared.spot.ComponentPlace.{ComponentPlace}
 use Rattle.cjc_cmd_check.specs.Check.{Checks, check_breaks, sentence_breaks}
 
 -- ---- ranks

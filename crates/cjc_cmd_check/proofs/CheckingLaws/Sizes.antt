@@ -63,12 +63,12 @@ use Rattle.cjc_cmd_check.specs.Folder.Breaks.{ArePartsShort, IsShort, cap_in, ca
 use Rattle.cjc_cmd_check.specs.Folder.Breaks.{with_components, with_read}
 use Rattle.cjc_cmd_check.specs.Folder.Reads.{read_component}
 use Rattle.cjc_cmd_check.specs.declared.folder.folder.Parts.{Parts}
-use Rattle.cjc_check.specs.CheckRules.Complete.{IsSmall, applet_size, applets_size, array_size, class_info_size}
-use Rattle.cjc_check.specs.CheckRules.Complete.{class_size}
-use Rattle.cjc_check.specs.CheckRules.Complete.{described_size, descriptor_size, export_size, exported_size}
-use Rattle.cjc_check.specs.CheckRules.Complete.{header_size}
-use Rattle.cjc_check.specs.CheckRules.Complete.{import_size, interface_size, locations_size, map_size, method_size}
-use Rattle.cjc_check.specs.CheckRules.Complete.{package_size, pool_size, size_of, statics_size, type_size}
+use Rattle.cjc_check.specs.LowerCheckRules.Complete.{IsSmall, applet_size, applets_size, array_size, class_info_size}
+use Rattle.cjc_check.specs.LowerCheckRules.Complete.{class_size}
+use Rattle.cjc_check.specs.LowerCheckRules.Complete.{described_size, descriptor_size, export_size, exported_size}
+use Rattle.cjc_check.specs.LowerCheckRules.Complete.{header_size}
+use Rattle.cjc_check.specs.LowerCheckRules.Complete.{import_size, interface_size, locations_size, map_size, method_size}
+use Rattle.cjc_check.specs.LowerCheckRules.Complete.{package_size, pool_size, size_of, statics_size, type_size}
 use Rattle.cjc_check.proofs.CheckRulesArrays.{two_each, four_each, seven_each, eight_each, twelve_each}
 
 -- ---- formats

@@ -9,11 +9,11 @@ use Rattle.cjc_bytes.specs.declared.fault.Refusal.{Refusal}
 use Rattle.cjc_capread.specs.declared.tree.CapTree.{CapTree}
 use Rattle.cjc_shelf.specs.Command.Gather.{Judged, status_of_fault}
 use Rattle.cjc_shelf.specs.declared.command.status.Todo.{Todo}
-use Rattle.cjc_check.specs.ExportFile.declared.tree.ExportTree.{ExportTree}
+use Rattle.cjc_check.specs.LowerExportFile.declared.tree.ExportTree.{ExportTree}
 use Rattle.cjc_cmd_check.specs.Folder.Breaks.{AreTrees, cap_in, export_trees, file_breaks, unless_broken}
 use Rattle.cjc_cmd_check.specs.declared.folder.folder.Folder.{Folder}
 use Rattle.cjc_cmd_check.specs.declared.folder.trees.FolderTrees.{FolderTrees}
-use Rattle.cjc_check.specs.CheckRules.Consistent.{Consistent, breaks}
+use Rattle.cjc_check.specs.LowerCheckRules.Consistent.{Consistent, breaks}
 use Rattle.cjc_cmd_check.specs.Check.{AreConsistent, Checks, check_breaks, sentence_breaks}
 
 -- where no file breaks its format

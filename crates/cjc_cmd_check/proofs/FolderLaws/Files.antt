@@ -24,10 +24,10 @@ use Rattle.cjc_capread.specs.declared.tree.Component.TheVariants as components
 use Rattle.cjc_capread.specs.declared.tree.Directory.{Directory}
 use Rattle.cjc_capread.specs.declared.tree.Header.{Header}
 use Rattle.cjc_capread.specs.declared.tree.CapTree.{CapTree}
-use Rattle.cjc_check.specs.ExportFile.ExportFile.{export_file}
-use Rattle.cjc_check.specs.ExportFile.declared.tree.ExportTree.{ExportTree}
+use Rattle.cjc_check.specs.LowerExportFile.ExportFile.{export_file}
+use Rattle.cjc_check.specs.LowerExportFile.declared.tree.ExportTree.{ExportTree}
 use Rattle.cjc_cmd_check.specs.declared.folder.folder.Parts.{Parts}
-use Rattle.cjc_check.specs.CheckRules.Consistent.{file_name}
+use Rattle.cjc_check.specs.LowerCheckRules.Consistent.{file_name}
 use Rattle.cjc_cmd_check.specs.Folder.Breaks.{break_in, component_breaks, component_place, export_breaks, export_trees}
 use Rattle.cjc_cmd_check.specs.Folder.Breaks.{kept_tree, part_breaks, unless_broken, with_component, with_components}
 use Rattle.cjc_cmd_check.specs.Folder.Breaks.{with_read}

@@ -12,8 +12,8 @@ use Rattle.cjc_bytes.specs.declared.settings.FileLine.{FileLine}
 use Rattle.cjc_bytes.proofs.Firsts.{upto_refl, among_either, among_one}
 use Rattle.cjc_capread.specs.declared.tree.Component.{Component}
 use Rattle.cjc_capread.specs.declared.tree.Component.TheVariants as components
-use Rattle.cjc_check.specs.ExportFile.ExportFile.{export_file}
-use Rattle.cjc_check.specs.ExportFile.declared.tree.ExportTree.{ExportTree}
+use Rattle.cjc_check.specs.LowerExportFile.ExportFile.{export_file}
+use Rattle.cjc_check.specs.LowerExportFile.declared.tree.ExportTree.{ExportTree}
 use Rattle.cjc_cmd_check.specs.Folder.Breaks.{break_in, component_breaks, component_place, export_breaks, file_breaks}
 use Rattle.cjc_cmd_check.specs.Folder.Breaks.{file_spot, part_breaks, unless_broken}
 use Rattle.cjc_cmd_check.specs.declared.folder.folder.Folder.{Folder}

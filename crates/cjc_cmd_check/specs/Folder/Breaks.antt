@@ -13,9 +13,9 @@ use Rattle.cjc_capread.specs.declared.tree.Component.{Component}
 use Rattle.cjc_capread.specs.declared.tree.Component.TheVariants as components
 use Rattle.cjc_capread.specs.declared.tree.Directory.{Directory}
 use Rattle.cjc_capread.specs.declared.tree.Header.{Header}
-use Rattle.cjc_check.specs.ExportFile.ExportFile.{export_file}
-use Rattle.cjc_check.specs.ExportFile.declared.tree.ExportTree.{ExportTree}
-use Rattle.cjc_check.specs.CheckRules.Consistent.{file_name}
+use Rattle.cjc_check.specs.LowerExportFile.ExportFile.{export_file}
+use Rattle.cjc_check.specs.LowerExportFile.declared.tree.ExportTree.{ExportTree}
+use Rattle.cjc_check.specs.LowerCheckRules.Consistent.{file_name}
 use Rattle.cjc_cmd_check.specs.Folder.Reads.{export_names, export_places, read_component, tags_of}
 use Rattle.cjc_cmd_check.specs.declared.folder.folder.Folder.{Folder}
 use Rattle.cjc_cmd_check.specs.declared.folder.folder.Parts.{Parts}

@@ -13,7 +13,7 @@ use Rattle.cjc_capread.specs.declared.tree.Component.TheVariants as components
 use Rattle.cjc_capread.specs.declared.tree.Directory.{Directory}
 use Rattle.cjc_shelf.specs.Command.Plan.{Plan, has, ◌>>=◌, read, read_each, unless_refused}
 use Rattle.cjc_list.specs.Listed.{ListTree, listed}
-use Rattle.cjc_check.specs.CheckRules.Consistent.{file_name}
+use Rattle.cjc_check.specs.LowerCheckRules.Consistent.{file_name}
 use Rattle.cjc_cmd_check.specs.declared.folder.folder.Folder.{Folder}
 use Rattle.cjc_cmd_check.specs.declared.folder.folder.Parts.{Parts}
 

@@ -1,7 +1,7 @@
 //! The names of the files that are read, and which components there are. It knows no shelf.
 
 ghost use Rattle.std.specs.Prelude.{◌≡◌, ◌+◌, ◌-◌, ◌<◌, ◌≤◌, ◌^◌, ◌==◌, not, get_or, map, length, IfOk};
-ghost use Rattle.cjc_check.specs.CheckRules.Consistent.{file_name};
+ghost use Rattle.cjc_check.specs.LowerCheckRules.Consistent.{file_name};
 ghost use Rattle.cjc_cmd_check.specs.Folder.Reads.{component_name, export_names, has_size, tags_of, tags_with_size};
 
 use cjc_bytes::{Bytes, Fault, FileLine, NoMemory, Out, Row};

@@ -6,9 +6,9 @@ use Rattle.std.specs.List.{AllByRecursion, IsDistinct, list_any}
 use Rattle.std.proofs.lemmas.Bool.Decides.{nat_tests}
 use Rattle.std.proofs.lemmas.List.{length-map}
 use Rattle.std.proofs.lemmas.Map.Steps.{length-le_from_distinct_below}
-use Rattle.cjc_tokens.specs.ExportFile.Members.{interface_token, interface_token_taken}
-use Rattle.cjc_tokens.specs.ExportFile.Writable.{EachAfter, MethodStands}
-use Rattle.cjc_tokens.specs.ExportFile.declared.tree.ExportMethod.{ExportMethod}
+use Rattle.cjc_compat.specs.ExportFile.Members.{interface_token, interface_token_taken}
+use Rattle.cjc_compat.specs.ExportFile.Writable.{EachAfter, MethodStands}
+use Rattle.cjc_compat.specs.ExportFile.declared.tree.ExportMethod.{ExportMethod}
 use Rattle.cjc_world.specs.Added.{by_token, with_token}
 use Rattle.cjc_world.specs.Classes.{Member, method_of_export}
 use Rattle.cjc_world.specs.Upwards.{Has, after, foremost}

@@ -4,12 +4,12 @@ use Rattle.std.proofs.Common.{[], ◌∷◌, ◌++◌, inl, inr, ⊎_elim, lengt
 use Rattle.std.specs.Prelude.{◌⊎◌, ◌||◌, ◌&&◌, ◌==◌, not, max, Option, Some, None, if◌then◌else◌, map, slice_get}
 use Rattle.std.specs.List.{list_any}
 use Rattle.std.proofs.lemmas.Bool.Decides.{nat_tests}
-use Rattle.cjc_tokens.specs.Bytes.AccessFlags.{is_final, is_interface, is_private, is_static}
-use Rattle.cjc_tokens.specs.ExportFile.Supers as supers
-use Rattle.cjc_tokens.specs.ExportFile.Writable.{ClassFits, EachAfter, IsWritable, MethodStands}
-use Rattle.cjc_tokens.specs.ExportFile.declared.tree.ExportClass.{ExportClass}
-use Rattle.cjc_tokens.specs.ExportFile.declared.tree.ExportMethod.{ExportMethod}
-use Rattle.cjc_tokens.specs.ExportFile.declared.tree.ExportTree.{ExportTree}
+use Rattle.cjc_world.specs.Bytes.AccessFlags.{is_final, is_interface, is_private, is_static}
+use Rattle.cjc_compat.specs.ExportFile.Supers as supers
+use Rattle.cjc_compat.specs.ExportFile.Writable.{ClassFits, EachAfter, IsWritable, MethodStands}
+use Rattle.cjc_compat.specs.ExportFile.declared.tree.ExportClass.{ExportClass}
+use Rattle.cjc_compat.specs.ExportFile.declared.tree.ExportMethod.{ExportMethod}
+use Rattle.cjc_compat.specs.ExportFile.declared.tree.ExportTree.{ExportTree}
 use Rattle.cjc_world.specs.Files.{Files}
 use Rattle.cjc_world.specs.Classes.{Class, Member, all_classes, class_named, imported, method_of_export}
 use Rattle.cjc_world.specs.Added.{own_methods, without_initialiser}

@@ -6,10 +6,10 @@ use Rattle.std.specs.Prelude.{◌&&◌, ◌||◌, not, Option, Some, None, if◌
 use Rattle.std.specs.Prelude.{count_by, slice_get, take}
 use Rattle.std.proofs.lemmas.List.{length-map}
 use Rattle.std.proofs.lemmas.Bool.{or_right}
-use Rattle.cjc_tokens.specs.Bytes.AccessFlags.{is_interface}
-use Rattle.cjc_tokens.specs.ClassFile.declared.tree.ClassTree.{ClassTree}
-use Rattle.cjc_tokens.specs.ClassFile.declared.tree.FieldTree.{FieldTree}
-use Rattle.cjc_tokens.specs.ExportFile.declared.tree.ExportTree.{ExportTree}
+use Rattle.cjc_world.specs.Bytes.AccessFlags.{is_interface}
+use Rattle.cjc_world.specs.ClassFile.declared.tree.ClassTree.{ClassTree}
+use Rattle.cjc_world.specs.ClassFile.declared.tree.FieldTree.{FieldTree}
+use Rattle.cjc_compat.specs.ExportFile.declared.tree.ExportTree.{ExportTree}
 use Rattle.cjc_world.specs.Files.{Files}
 use Rattle.cjc_world.specs.Classes.{Class, Member, all_classes, class_named, declared, method_of_class}
 use Rattle.cjc_world.specs.Added.{added}

@@ -4,8 +4,8 @@ use Rattle.std.proofs.Common.{◌≡◌, ℕ, refl, sym, ap, subst, ◌∙◌, B
 use Rattle.std.specs.Prelude.{◌⊎◌, ◌||◌, ◌&&◌, not, Option, Some, None, if◌then◌else◌, map}
 use Rattle.std.specs.List.{list_any}
 use Rattle.std.specs.Str.{bytes_eq}
-use Rattle.cjc_tokens.specs.Bytes.AccessFlags.{is_abstract, is_interface, is_private, is_static}
-use Rattle.cjc_tokens.specs.ExportFile.declared.tree.ExportTree.{ExportTree}
+use Rattle.cjc_world.specs.Bytes.AccessFlags.{is_abstract, is_interface, is_private, is_static}
+use Rattle.cjc_compat.specs.ExportFile.declared.tree.ExportTree.{ExportTree}
 use Rattle.cjc_world.specs.Files.{Files}
 use Rattle.cjc_world.specs.Classes.{Class, Member, all_classes, class_named}
 use Rattle.cjc_world.specs.Supertypes.{AreSupertypes, End, IsAcyclic, Known, Lists, Supertypes, Unknown, ends}

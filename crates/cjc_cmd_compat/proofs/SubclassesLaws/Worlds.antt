@@ -6,13 +6,13 @@ use Rattle.std.specs.Prelude.{nat_lt, set, slice_get}
 use Rattle.std.specs.List.{list_any}
 use Rattle.std.specs.Str.{bytes_eq}
 use Rattle.std.proofs.lemmas.Bool.Decides.{nat_tests}
-use Rattle.cjc_tokens.specs.Bytes.Breaks.{broken_at, list_spot}
-use Rattle.cjc_tokens.specs.Bytes.declared.order.FileKey.{FileKey}
-use Rattle.cjc_tokens.specs.Bytes.declared.order.FileKey.TheVariants as keys
-use Rattle.cjc_tokens.specs.Bytes.declared.settings.FileLine.{FileLine}
-use Rattle.cjc_tokens.specs.ClassFile.declared.tree.ClassTree.{ClassTree}
-use Rattle.cjc_tokens.specs.ExportFile.declared.tree.ExportClass.{ExportClass}
-use Rattle.cjc_tokens.specs.ExportFile.declared.tree.ExportTree.{ExportTree}
+use Rattle.cjc_world.specs.Bytes.Breaks.{broken_at, list_spot}
+use Rattle.cjc_world.specs.Bytes.declared.order.FileKey.{FileKey}
+use Rattle.cjc_world.specs.Bytes.declared.order.FileKey.TheVariants as keys
+use Rattle.cjc_world.specs.Bytes.declared.settings.FileLine.{FileLine}
+use Rattle.cjc_world.specs.ClassFile.declared.tree.ClassTree.{ClassTree}
+use Rattle.cjc_compat.specs.ExportFile.declared.tree.ExportClass.{ExportClass}
+use Rattle.cjc_compat.specs.ExportFile.declared.tree.ExportTree.{ExportTree}
 use Rattle.cjc_world.specs.Files.{Files}
 use Rattle.cjc_world.specs.Classes.{Class, Member, all_classes, class_at, class_named, classes_from, declared, imported}
 use Rattle.cjc_world.specs.Classes.{numbered, of_class_file, of_export_file, size}

@@ -1,21 +1,21 @@
 -- What is converted keeps its promise, by the laws of converted packages.
 use Rattle.std.proofs.Common.{◌≡◌, ℕ, List, [], Result, Ok, Err, IfOk, sym, subst}
 use Rattle.cjc_theorem.specs.Alike.Alike.{BehaveAlike}
-use Rattle.cjc_theorem.specs.Bytes.declared.fault.Fault.{Fault}
-use Rattle.cjc_theorem.specs.Components.Components.{components_of}
-use Rattle.cjc_theorem.specs.Components.Limits.{limit_breaks}
-use Rattle.cjc_theorem.specs.Components.Package.{Package}
+use Rattle.cjc_shelf.specs.Bytes.declared.fault.Fault.{Fault}
+use Rattle.cjc_convert.specs.Components.Components.{components_of}
+use Rattle.cjc_convert.specs.Components.Limits.{limit_breaks}
+use Rattle.cjc_convert.specs.Components.Package.{Package}
 use Rattle.cjc_convert.specs.Conversion.{IsConverted}
 use Rattle.cjc_convert.specs.declared.conversion.Converted.{Converted}
 use Rattle.cjc_theorem.specs.FairExports.Fair.{ExportsAreFair}
-use Rattle.cjc_theorem.specs.Judge.Rules.{files_spelt}
-use Rattle.cjc_theorem.specs.Judge.declared.judged.Judged.{Judged}
-use Rattle.cjc_theorem.specs.Judge.Spelt.{IsRead}
-use Rattle.cjc_theorem.specs.List.Listed.{ListTree}
-use Rattle.cjc_convert.specs.Shape.Prepared.{IsSound}
-use Rattle.cjc_theorem.specs.CheckRules.Consistent.{Consistent}
-use Rattle.cjc_convert.specs.Shape.Whole.Conversion.{IsPackageOf}
-use Rattle.cjc_theorem.specs.World.Files.{Files as World}
+use Rattle.cjc_convert.specs.Judge.Rules.{files_spelt}
+use Rattle.cjc_convert.specs.Judge.declared.judged.Judged.{Judged}
+use Rattle.cjc_convert.specs.Judge.Spelt.{IsRead}
+use Rattle.cjc_convert.specs.List.Listed.{ListTree}
+use Rattle.cjc_theorem.specs.Shape.Prepared.{IsSound}
+use Rattle.cjc_convert.specs.CheckRules.Consistent.{Consistent}
+use Rattle.cjc_theorem.specs.Shape.Whole.Conversion.{IsPackageOf}
+use Rattle.cjc_convert.specs.World.Files.{Files as World}
 use Rattle.cjc_cmd_convert.specs.Conversion.Promise.{KeepsPromise}
 
 -- What is said of the package of each list that was read, of files that break no rule, nor does what is written for

@@ -1,12 +1,12 @@
 -- The component files spell one tree of components at most.
 use Rattle.std.proofs.Common.{◌≡◌, ℕ, refl, ap, List, length, Option, Some, None, IsSomeAnd}
-use Rattle.cjc_theorem.specs.Bytes.Format.{FileSpells}
-use Rattle.cjc_convert.specs.CapRead.declared.tree.CapTree.{CapTree}
-use Rattle.cjc_convert.specs.CapRead.declared.tree.Component.{Component}
-use Rattle.cjc_convert.specs.CapRead.declared.tree.Component.TheVariants as components
-use Rattle.cjc_convert.specs.CapRead.Component.{component}
-use Rattle.cjc_theorem.specs.CapWrite.declared.files.CapFiles.{CapFiles}
-use Rattle.cjc_theorem.specs.CapWrite.Writable.{IsSpelt, Spelt, SpeltWhere}
+use Rattle.cjc_shelf.specs.Bytes.Format.{FileSpells}
+use Rattle.cjc_theorem.specs.CapRead.declared.tree.CapTree.{CapTree}
+use Rattle.cjc_theorem.specs.CapRead.declared.tree.Component.{Component}
+use Rattle.cjc_theorem.specs.CapRead.declared.tree.Component.TheVariants as components
+use Rattle.cjc_theorem.specs.CapRead.Component.{component}
+use Rattle.cjc_convert.specs.CapWrite.declared.files.CapFiles.{CapFiles}
+use Rattle.cjc_convert.specs.CapWrite.Writable.{IsSpelt, Spelt, SpeltWhere}
 
 module _ (one : (tag : ℕ) (s t : Component) (bytes : List ℕ) → FileSpells (component tag (length bytes)) s bytes
     → FileSpells (component tag (length bytes)) t bytes → s ≡ t) where

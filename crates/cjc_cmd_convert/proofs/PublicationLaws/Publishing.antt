@@ -2,7 +2,7 @@
 use Rattle.std.proofs.Common.{◌≡◌, ℕ, List, [], ◌∷◌, ◌++◌, map, refl, sym, ap, ◌∙◌, Option, Some, None}
 use Rattle.std.proofs.lemmas.List.{map-append}
 use Rattle.std.specs.Prelude.{codes}
-use Rattle.cjc_theorem.specs.CapWrite.declared.files.CapFiles.{CapFiles}
+use Rattle.cjc_convert.specs.CapWrite.declared.files.CapFiles.{CapFiles}
 use Rattle.cjc_shelf.specs.declared.command.status.File.{File}
 use Rattle.cjc_shelf.specs.declared.command.status.Todo.{Todo}
 use Rattle.cjc_cmd_convert.specs.Publication.{below, components_of, file_line, files_made, last_part, named}

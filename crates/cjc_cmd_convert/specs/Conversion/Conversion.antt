@@ -2,15 +2,15 @@
 -- conversion.
 use Rattle.std.specs.Prelude.{ℕ, List}
 use Rattle.cjc_theorem.specs.Alike.Alike as alike
-use Rattle.cjc_theorem.specs.Bytes.declared.fault.Refusal.{Refusal}
-use Rattle.cjc_convert.specs.CapRead.declared.tree.CapTree.{CapTree}
+use Rattle.cjc_shelf.specs.Bytes.declared.fault.Refusal.{Refusal}
+use Rattle.cjc_theorem.specs.CapRead.declared.tree.CapTree.{CapTree}
 use Rattle.cjc_convert.specs.Conversion as assembled
 use Rattle.cjc_convert.specs.declared.conversion.Converted.{Converted}
-use Rattle.cjc_convert.specs.ExportFile.declared.tree.ExportTree.{ExportTree}
+use Rattle.cjc_theorem.specs.ExportFile.declared.tree.ExportTree.{ExportTree}
 use Rattle.cjc_theorem.specs.FairExports.Fair as fair
-use Rattle.cjc_theorem.specs.List.Listed.{ListTree}
-use Rattle.cjc_convert.specs.Shape.Whole.Conversion as whole
-use Rattle.cjc_theorem.specs.World.Files.{Files}
+use Rattle.cjc_convert.specs.List.Listed.{ListTree}
+use Rattle.cjc_theorem.specs.Shape.Whole.Conversion as whole
+use Rattle.cjc_convert.specs.World.Files.{Files}
 
 -- the component files and the export file
 abbrev pub Conversion : Type 0

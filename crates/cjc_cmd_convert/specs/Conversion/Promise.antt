@@ -1,14 +1,14 @@
 -- What a conversion promises of what it makes.
 use Rattle.std.specs.Prelude.{ℕ, List}
 use Rattle.cjc_theorem.specs.Alike.Alike.{BehaveAlike}
-use Rattle.cjc_convert.specs.CapRead.declared.tree.CapTree.{CapTree}
-use Rattle.cjc_theorem.specs.CapWrite.Writable.{IsSpelt}
+use Rattle.cjc_theorem.specs.CapRead.declared.tree.CapTree.{CapTree}
+use Rattle.cjc_convert.specs.CapWrite.Writable.{IsSpelt}
 use Rattle.cjc_convert.specs.declared.conversion.Converted.{Converted}
 use Rattle.cjc_theorem.specs.FairExports.Fair.{ExportsAreFair}
-use Rattle.cjc_theorem.specs.Judge.Rules.{files_spelt}
-use Rattle.cjc_theorem.specs.Judge.Spelt.{FileTree, SpellTrees, exports_of}
-use Rattle.cjc_theorem.specs.List.Listed.{ListTree}
-use Rattle.cjc_theorem.specs.CheckRules.Consistent.{Consistent}
+use Rattle.cjc_convert.specs.Judge.Rules.{files_spelt}
+use Rattle.cjc_convert.specs.Judge.Spelt.{FileTree, SpellTrees, exports_of}
+use Rattle.cjc_convert.specs.List.Listed.{ListTree}
+use Rattle.cjc_convert.specs.CheckRules.Consistent.{Consistent}
 
 -- The files of a list spell these classes and export files, and the component files that are made spell these
 -- components. Over

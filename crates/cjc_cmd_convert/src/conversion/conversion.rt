@@ -2,12 +2,12 @@
 //! promise that is made of it. It reads no file and writes none.
 
 ghost use Rattle.std.specs.Prelude.{◌≡◌, ◌⊎◌, ◌≤◌, ◌^◌, length, All, IfOk, IfErr};
-ghost use Rattle.cjc_theorem.specs.Bytes.declared.fault.Fault.TheVariants as faults;
-ghost use Rattle.cjc_theorem.specs.Bytes.declared.fault.Refusal.{Refusal as Broken};
+ghost use Rattle.cjc_shelf.specs.Bytes.declared.fault.Fault.TheVariants as faults;
+ghost use Rattle.cjc_shelf.specs.Bytes.declared.fault.Refusal.{Refusal as Broken};
 ghost use Rattle.cjc_cmd_convert.specs.Conversion.Promise.{KeepsPromise};
 ghost use Rattle.cjc_convert.specs.Conversion.{IsConverted};
-ghost use Rattle.cjc_theorem.specs.Judge.Spelt.{IsRead};
-ghost use Rattle.cjc_convert.specs.Shape.Whole.Conversion.{IsRefused};
+ghost use Rattle.cjc_convert.specs.Judge.Spelt.{IsRead};
+ghost use Rattle.cjc_theorem.specs.Shape.Whole.Conversion.{IsRefused};
 
 use cjc_convert::Converted;
 use cjc_convert::list::List;

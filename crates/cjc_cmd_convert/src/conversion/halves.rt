@@ -3,16 +3,16 @@
 //! Laws alone: nothing here runs.
 
 ghost use Rattle.std.specs.Prelude.{◌≡◌, ℕ, List as Items};
-ghost use Rattle.cjc_convert.specs.CapRead.declared.tree.CapTree.{CapTree};
-ghost use Rattle.cjc_theorem.specs.CapWrite.Writable.{IsSpelt};
-ghost use Rattle.cjc_theorem.specs.Components.Components.{components_of};
-ghost use Rattle.cjc_theorem.specs.Components.Package.{Package};
+ghost use Rattle.cjc_theorem.specs.CapRead.declared.tree.CapTree.{CapTree};
+ghost use Rattle.cjc_convert.specs.CapWrite.Writable.{IsSpelt};
+ghost use Rattle.cjc_convert.specs.Components.Components.{components_of};
+ghost use Rattle.cjc_convert.specs.Components.Package.{Package};
 ghost use Rattle.cjc_convert.specs.Conversion.{IsConverted};
 ghost use Rattle.cjc_convert.specs.declared.conversion.Converted.{Converted as Written};
-ghost use Rattle.cjc_theorem.specs.Judge.Rules.{files_spelt};
-ghost use Rattle.cjc_theorem.specs.Judge.Spelt.{FileTree, IsRead, SpellTrees, exports_of};
-ghost use Rattle.cjc_theorem.specs.List.Listed.{ListTree};
-ghost use Rattle.cjc_convert.specs.Shape.Whole.Conversion.{IsPackageOf};
+ghost use Rattle.cjc_convert.specs.Judge.Rules.{files_spelt};
+ghost use Rattle.cjc_convert.specs.Judge.Spelt.{FileTree, IsRead, SpellTrees, exports_of};
+ghost use Rattle.cjc_convert.specs.List.Listed.{ListTree};
+ghost use Rattle.cjc_theorem.specs.Shape.Whole.Conversion.{IsPackageOf};
 ghost use Rattle.cjc_theorem.specs.Alike.Halves.{CodeBehavesAlike, ComponentsRunAsCode, HasFewestBytes};
 ghost use Rattle.cjc_theorem.specs.FairExports.Fair.{ExportsAreFair};
 

@@ -3,16 +3,16 @@ use Rattle.std.proofs.Common.{◌≡◌, ◌⊎◌, inl, inr, ◌<◌, ◌+◌, 
 use Rattle.std.proofs.Common.{◌∙◌, arith, Err}
 use Rattle.std.proofs.lemmas.List.{length-map}
 use Rattle.std.specs.List.{sum_by}
-use Rattle.cjc_judge.specs.Bytes.Breaks.{Break, foremost}
-use Rattle.cjc_judge.specs.Bytes.declared.fault.Fault.{Fault}
-use Rattle.cjc_judge.specs.Bytes.declared.fault.Fault.TheVariants as faults
-use Rattle.cjc_jvm.specs.JvmSemantics.ByName.{linked}
-use Rattle.cjc_jvm.specs.JvmSemantics.Machine.{start}
-use Rattle.cjc_jvm.specs.JvmSemantics.OnePackage.{static_array}
-use Rattle.cjc_judge.specs.Clinit.Rules.{BreaksImage}
+use Rattle.cjc_shelf.specs.Bytes.Breaks.{Break, foremost}
+use Rattle.cjc_shelf.specs.Bytes.declared.fault.Fault.{Fault}
+use Rattle.cjc_shelf.specs.Bytes.declared.fault.Fault.TheVariants as faults
+use Rattle.cjc_jvm_link.specs.JvmSemantics.ByName.{linked}
+use Rattle.cjc_jvm_link.specs.JvmSemantics.Machine.{start}
+use Rattle.cjc_jvm_link.specs.JvmSemantics.OnePackage.{static_array}
+use Rattle.cjc_judge.specs.LowerClinit.Rules.{BreaksImage}
 use Rattle.cjc_shelf.specs.Command.Gather.{Judged as IsGiven, status_of_fault}
 use Rattle.cjc_shelf.specs.declared.command.status.Todo.{Todo}
-use Rattle.cjc_jvm_link.specs.Bytecode.PackageCodes.{all_codes}
+use Rattle.cjc_jvm.specs.Bytecode.PackageCodes.{all_codes}
 use Rattle.cjc_judge.specs.Judged.{IsJudged}
 use Rattle.cjc_judge.specs.Rules.{IsFirstFault}
 use Rattle.cjc_judge.specs.Rules.{Breach, of_world, of_group, files_spelt, world_files}
@@ -20,17 +20,17 @@ use Rattle.cjc_judge.specs.Spelt.{FileTree, SpellTrees, classes_of, exports_of}
 use Rattle.cjc_judge.specs.declared.groups.Group.TheVariants as groups
 use Rattle.cjc_judge.specs.declared.judged.Judged.{Judged}
 use Rattle.cjc_judge.proofs.Firsts.{all_spell}
-use Rattle.cjc_judge.specs.List.Listed.{ListTree}
+use Rattle.cjc_script_text.specs.List.Listed.{ListTree}
 use Rattle.cjc_cmd_jvm.specs.Running.Ready.{tested, Breaks}
 use Rattle.cjc_cmd_jvm.specs.declared.running.input.Input.{Input}
-use Rattle.cjc_jvm.specs.Script.declared.script.Script.{Script}
+use Rattle.cjc_script_text.specs.Script.declared.script.Script.{Script}
 use Rattle.cjc_jvm.specs.States.{objects_at_most}
-use Rattle.cjc_jvm_link.specs.World.declared.image.StaticImage.{StaticImage}
+use Rattle.cjc_judge.specs.World.declared.image.StaticImage.{StaticImage}
 use Rattle.cjc_cmd_jvm.specs.Runs.{Runs}
-use Rattle.cjc_jvm_link.specs.World.Files.{Files}
-use Rattle.cjc_jvm_link.specs.World.Rules.{breaks}
+use Rattle.cjc_judge.specs.World.Files.{Files}
+use Rattle.cjc_judge.specs.World.Rules.{breaks}
 
-none_of : (bs : List Break) → ((b : Break) → Rattle.cjc_judge.specs.Bytes.Breaks.Among b bs → ⊥) → bs ≡ []
+none_of : (bs : List Break) → ((b : Break) → Rattle.cjc_shelf.specs.Bytes.Breaks.Among b bs → ⊥) → bs ≡ []
 none_of [] h = refl
 none_of (b ∷ bs) h = absurd (h b foremost)
 

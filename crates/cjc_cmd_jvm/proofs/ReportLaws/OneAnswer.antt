@@ -1,13 +1,13 @@
 -- What was read decides one answer.
 use Rattle.std.proofs.Common.{◌≡◌, ◌⊎◌, inl, inr, ℕ, List, sym, ap, ◌∙◌, arith, Ok, Err}
-use Rattle.cjc_judge.specs.Bytes.Breaks.{Break}
-use Rattle.cjc_judge.specs.Bytes.Order.{Rank}
-use Rattle.cjc_judge.specs.Bytes.declared.fault.Refusal.{Refusal}
+use Rattle.cjc_shelf.specs.Bytes.Breaks.{Break}
+use Rattle.cjc_shelf.specs.Bytes.Order.{Rank}
+use Rattle.cjc_shelf.specs.Bytes.declared.fault.Refusal.{Refusal}
 use Rattle.cjc_shelf.specs.declared.command.status.Todo.{Todo}
 use Rattle.cjc_judge.specs.Rules.{Breach}
 use Rattle.cjc_judge.proofs.Firsts.{file_or_later, file_rule}
 use Rattle.cjc_judge.proofs.OneRefusal.{one_refusal, one_first_of}
-use Rattle.cjc_judge.specs.List.Listed.{ListTree}
+use Rattle.cjc_script_text.specs.List.Listed.{ListTree}
 use Rattle.cjc_cmd_jvm.specs.Running.Ready.{tested, script_break, BreaksScript, Breaks, of_package, of_script}
 use Rattle.cjc_cmd_jvm.specs.declared.running.input.Input.{Input}
 use Rattle.cjc_script_text.specs.Scripted.{scripted}

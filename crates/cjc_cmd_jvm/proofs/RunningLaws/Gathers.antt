@@ -1,17 +1,17 @@
 -- The reads of a list, its files and a script, each behind those before it.
 use Rattle.std.proofs.Common.{◌≡◌, inl, inr, ℕ, ◌<◌, List, length, refl, sym, ap, subst, ◌∙◌, arith, Result, Ok, Err}
-use Rattle.cjc_judge.specs.Bytes.Refused.{IsUnlessNoMemory}
-use Rattle.cjc_judge.specs.Bytes.declared.fault.Fault.TheVariants as faults
-use Rattle.cjc_judge.specs.Bytes.declared.fault.Refusal.{Refusal}
-use Rattle.cjc_judge.specs.Bytes.declared.settings.FileLine.{FileLine}
+use Rattle.cjc_shelf.specs.Bytes.Refused.{IsUnlessNoMemory}
+use Rattle.cjc_shelf.specs.Bytes.declared.fault.Fault.TheVariants as faults
+use Rattle.cjc_shelf.specs.Bytes.declared.fault.Refusal.{Refusal}
+use Rattle.cjc_shelf.specs.Bytes.declared.settings.FileLine.{FileLine}
 use Rattle.cjc_shelf.specs.Command.Gather.{Gathers, IsSame, AreShort}
 use Rattle.cjc_shelf.specs.Command.Plan.{Plan, has, ◌>>=◌, read, read_each, unless_refused}
 use Rattle.cjc_shelf.specs.declared.command.status.Status.{Status}
 use Rattle.cjc_shelf.specs.declared.command.status.Status.TheVariants as status
 use Rattle.cjc_shelf.proofs.CommandLaws.Gathering.{gathers_then, gathers_end, gathers_has, gathers_refused}
 use Rattle.cjc_judge.specs.Spelt.{IsRead, AreFiles}
-use Rattle.cjc_judge.specs.List.Listed.{ListTree, listed, answer}
-use Rattle.cjc_judge.specs.List.Spelling.{IsSpelt}
+use Rattle.cjc_script_text.specs.List.Listed.{ListTree, listed, answer}
+use Rattle.cjc_script_text.specs.List.Spelling.{IsSpelt}
 use Rattle.cjc_shelf.specs.Shelf.{Shelved}
 use Rattle.cjc_cmd_jvm.specs.declared.running.input.Input.{Input}
 use Rattle.cjc_cmd_jvm.specs.Running.Reads.{names_of, plan_behind_files, plan_behind_list, plan_behind_text}

@@ -1,15 +1,15 @@
 -- The first of what a package and its script break.
 use Rattle.std.proofs.Common.{◌≡◌, ◌⊎◌, inl, inr, ℕ, ◌≤◌, ◌^◌, List, refl, sym, ap, subst, ◌∙◌, arith, Result, Ok, Err}
-use Rattle.cjc_judge.specs.Bytes.Breaks.{Break}
-use Rattle.cjc_judge.specs.Bytes.Order.{NotAfter}
-use Rattle.cjc_judge.specs.Bytes.Refused.{IsUnlessNoMemory}
-use Rattle.cjc_judge.specs.Bytes.declared.fault.Fault.{Fault}
-use Rattle.cjc_judge.specs.Bytes.declared.fault.Fault.TheVariants as faults
-use Rattle.cjc_judge.specs.Bytes.declared.fault.Refusal.{Refusal}
+use Rattle.cjc_shelf.specs.Bytes.Breaks.{Break}
+use Rattle.cjc_shelf.specs.Bytes.Order.{NotAfter}
+use Rattle.cjc_shelf.specs.Bytes.Refused.{IsUnlessNoMemory}
+use Rattle.cjc_shelf.specs.Bytes.declared.fault.Fault.{Fault}
+use Rattle.cjc_shelf.specs.Bytes.declared.fault.Fault.TheVariants as faults
+use Rattle.cjc_shelf.specs.Bytes.declared.fault.Refusal.{Refusal}
 use Rattle.cjc_judge.specs.Judged.{IsStopped}
 use Rattle.cjc_judge.specs.Rules.{Breach, BreaksFile, IsFirstRefused, IsFirstFault, of_file}
 use Rattle.cjc_judge.specs.Spelt.{IsRead}
-use Rattle.cjc_judge.specs.List.Listed.{ListTree, answer}
+use Rattle.cjc_script_text.specs.List.Listed.{ListTree, answer}
 use Rattle.cjc_script_text.specs.Scripted.{ScriptTree, scripted}
 use Rattle.cjc_cmd_jvm.specs.Running.Ready.{tested, script_break, BreaksScript, Breaks, of_package, of_script}
 

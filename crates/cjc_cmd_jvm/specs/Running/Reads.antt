@@ -1,9 +1,9 @@
 -- What is read where class files are to be run: a list, its files, and a script.
 use Rattle.std.specs.Prelude.{◌≡◌, ◌<◌, ◌^◌, ℕ, List, length, map}
-use Rattle.cjc_judge.specs.Bytes.declared.settings.FileLine.{FileLine}
+use Rattle.cjc_shelf.specs.Bytes.declared.settings.FileLine.{FileLine}
 use Rattle.cjc_shelf.specs.Command.Plan.{Plan, has, ◌>>=◌, read, read_each, unless_refused}
 use Rattle.cjc_judge.specs.Spelt.{IsRead, AreFiles}
-use Rattle.cjc_judge.specs.List.Listed.{ListTree, listed}
+use Rattle.cjc_script_text.specs.List.Listed.{ListTree, listed}
 use Rattle.cjc_cmd_jvm.specs.declared.running.input.Input.{Input}
 
 -- the names of the files of a list, in the order of its lines

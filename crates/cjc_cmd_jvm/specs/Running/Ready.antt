@@ -1,14 +1,14 @@
 -- What runs of class files start from: a package that breaks no rule of the first three hundreds, and a script.
 use Rattle.std.specs.Prelude.{◌≡◌, ℕ, List, [], ◌∷◌, Ok, Err}
-use Rattle.cjc_judge.specs.Bytes.Breaks.{Break}
-use Rattle.cjc_judge.specs.Bytes.Order.{file_number}
-use Rattle.cjc_judge.specs.Bytes.declared.fault.Refusal.{Refusal}
-use Rattle.cjc_judge.specs.Bytes.declared.order.FileKey.TheVariants as keys
+use Rattle.cjc_shelf.specs.Bytes.Breaks.{Break}
+use Rattle.cjc_shelf.specs.Bytes.Order.{file_number}
+use Rattle.cjc_shelf.specs.Bytes.declared.fault.Refusal.{Refusal}
+use Rattle.cjc_shelf.specs.Bytes.declared.order.FileKey.TheVariants as keys
 use Rattle.cjc_judge.specs.Judged.{IsJudged}
 use Rattle.cjc_judge.specs.Rules.{Breach}
 use Rattle.cjc_judge.specs.declared.groups.Group.{Group}
 use Rattle.cjc_judge.specs.declared.groups.Group.TheVariants as groups
-use Rattle.cjc_judge.specs.List.Listed.{ListTree}
+use Rattle.cjc_script_text.specs.List.Listed.{ListTree}
 use Rattle.cjc_script_text.specs.Scripted.{scripted}
 use Rattle.cjc_cmd_jvm.specs.declared.running.ready.Ready.{Ready}
 

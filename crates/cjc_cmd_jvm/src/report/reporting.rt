@@ -2,10 +2,10 @@
 
 ghost use Rattle.std.specs.Prelude.{◌≡◌, ◌<◌, ◌+◌, ◌^◌, length, true, IfOk};
 ghost use Rattle.std.specs.List.{sum_by};
-ghost use Rattle.cjc_judge.specs.Bytes.Breaks.{Break as Broken};
-ghost use Rattle.cjc_jvm.specs.JvmSemantics.ByName.{run as run_by_name};
-ghost use Rattle.cjc_judge.specs.Clinit.Rules.{BreaksImage};
-ghost use Rattle.cjc_jvm_link.specs.Bytecode.PackageCodes.{all_codes};
+ghost use Rattle.cjc_shelf.specs.Bytes.Breaks.{Break as Broken};
+ghost use Rattle.cjc_jvm_link.specs.JvmSemantics.ByName.{run as run_by_name};
+ghost use Rattle.cjc_judge.specs.LowerClinit.Rules.{BreaksImage};
+ghost use Rattle.cjc_jvm.specs.Bytecode.PackageCodes.{all_codes};
 ghost use Rattle.cjc_cmd_jvm.specs.Runs.{IsReport};
 
 use crate::report::room::{behind_answers, behind_entries};

@@ -1,19 +1,19 @@
 -- How the reads of a shelf in memory end, and what faults come of that.
 use Rattle.std.specs.Prelude.{◌⊎◌}
 use Rattle.std.proofs.Common.{◌≡◌, inl, inr, ℕ, refl, sym, ap, subst, ◌∙◌, Result, Ok, Err}
-use Rattle.cjc_cmd_convert.specs.Bytes.declared.fault.Fault.{Fault}
-use Rattle.cjc_cmd_convert.specs.Bytes.declared.fault.Fault.TheVariants as faults
-use Rattle.cjc_cmd_convert.specs.Bytes.declared.fault.Refusal.{Refusal}
-use Rattle.cjc_cmd_convert.specs.Shelf.Command.Gather.{Gathers, IsSame, Judged, status_of_fault}
-use Rattle.cjc_cmd_convert.specs.Shelf.Command.Plan.{Plan, complete, refused, verdict}
-use Rattle.cjc_cmd_convert.specs.Shelf.declared.command.status.Status.{Status}
-use Rattle.cjc_cmd_convert.specs.Shelf.declared.command.status.Status.TheVariants as status
-use Rattle.cjc_cmd_convert.specs.Shelf.declared.command.status.Todo.{Todo}
+use Rattle.cjc_cmd_card.specs.Bytes.declared.fault.Fault.{Fault}
+use Rattle.cjc_cmd_card.specs.Bytes.declared.fault.Fault.TheVariants as faults
+use Rattle.cjc_cmd_card.specs.Bytes.declared.fault.Refusal.{Refusal}
+use Rattle.cjc_cmd_card.specs.Shelf.Command.Gather.{Gathers, IsSame, Judged, status_of_fault}
+use Rattle.cjc_cmd_card.specs.Shelf.Command.Plan.{Plan, complete, refused, verdict}
+use Rattle.cjc_cmd_card.specs.Shelf.declared.command.status.Status.{Status}
+use Rattle.cjc_cmd_card.specs.Shelf.declared.command.status.Status.TheVariants as status
+use Rattle.cjc_cmd_card.specs.Shelf.declared.command.status.Todo.{Todo}
 use Rattle.cjc_cmd_convert.specs.Conversion.Conversion.{Conversion, IsConverted}
-use Rattle.cjc_cmd_card.specs.Judge.Rules.{IsFirstFault}
+use Rattle.cjc_cmd_convert.specs.Judge.Rules.{IsFirstFault}
 use Rattle.cjc_cmd_card.specs.Report.Runs.{AnyBreaks}
 use Rattle.cjc_cmd_card.specs.declared.running.input.Input.{Input as ComponentsInput}
-use Rattle.cjc_cmd_convert.specs.Script.declared.report.Report.{Report}
+use Rattle.cjc_cmd_card.specs.Script.declared.report.Report.{Report}
 use Rattle.cjc_cmd_make.specs.Report.Package.{made_files, script_name}
 use Rattle.cjc_cmd_make.specs.Report.Runs.{IsReportByName, Makes, Refuses, RefusesComponents, RefusesRuns, card_end}
 use Rattle.cjc_cmd_make.specs.Report.Runs.{of_class_files, of_components, of_list, of_package, of_reads, of_rules}
@@ -21,11 +21,11 @@ use Rattle.cjc_cmd_make.specs.Report.Runs.{of_runs}
 use Rattle.cjc_cmd_make.specs.Report.Runs.{reads_end, with_made}
 use Rattle.cjc_cmd_make.specs.Report.Working.{IsConversionFault, IsListFault, IsMakeFault, IsReadFault, IsRunsFault}
 use Rattle.cjc_cmd_make.specs.Report.Working.{IsTokenFault, fault_of}
-use Rattle.cjc_cmd_card.specs.CmdJvm.Running.Ready.{Breaks}
-use Rattle.cjc_cmd_card.specs.CmdJvm.declared.running.input.Input.{Input}
-use Rattle.cjc_cmd_convert.specs.Shelf.Memory.{clean_shelved, files_of, told_files}
-use Rattle.cjc_cmd_convert.specs.Shelf.Shelf.{Files, Shelved}
-use Rattle.cjc_cmd_convert.specs.Shelf.declared.memory.CleanShelf.{CleanShelf}
+use Rattle.cjc_cmd_card.specs.LowerCmdJvm.Running.Ready.{Breaks}
+use Rattle.cjc_cmd_card.specs.LowerCmdJvm.declared.running.input.Input.{Input}
+use Rattle.cjc_cmd_card.specs.Shelf.Memory.{clean_shelved, files_of, told_files}
+use Rattle.cjc_cmd_card.specs.Shelf.Shelf.{Files, Shelved}
+use Rattle.cjc_cmd_card.specs.Shelf.declared.memory.CleanShelf.{CleanShelf}
 
 -- ---- reads
 

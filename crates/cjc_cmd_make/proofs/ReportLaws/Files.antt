@@ -3,14 +3,14 @@ use Rattle.std.proofs.Common.{◌≡◌, ℕ, ◌+◌, ◌<◌, ◌≤◌, List,
 use Rattle.std.proofs.lemmas.List.{drop_all}
 use Rattle.std.specs.FinMap.{insert}
 use Rattle.cjc_cmd_convert.proofs.ShelfAhead.{written_files-append}
-use Rattle.cjc_cmd_convert.specs.Shelf.Command.Publish.{written_files}
-use Rattle.cjc_cmd_convert.specs.Shelf.declared.command.status.File.{File}
+use Rattle.cjc_cmd_card.specs.Shelf.Command.Publish.{written_files}
+use Rattle.cjc_cmd_card.specs.Shelf.declared.command.status.File.{File}
 use Rattle.cjc_cmd_make.specs.declared.package.made.Made.{Made}
 use Rattle.cjc_cmd_make.specs.Report.Package.{class_file_name, list_name, named_classes, named_files, package_files}
 use Rattle.cjc_cmd_make.specs.Report.Package.{script_name}
 use Rattle.cjc_cmd_convert.specs.Publication.{named}
-use Rattle.cjc_cmd_convert.specs.Shelf.Memory.{files_of, with_file}
-use Rattle.cjc_cmd_convert.specs.Shelf.Shelf.{Files, Shelved}
+use Rattle.cjc_cmd_card.specs.Shelf.Memory.{files_of, with_file}
+use Rattle.cjc_cmd_card.specs.Shelf.Shelf.{Files, Shelved}
 use Rattle.cjc_cmd_convert.proofs.BytesGets.{drop_next}
 
 -- what a shelf tells that got one file more

@@ -1,20 +1,20 @@
 -- A number and a size decide one answer.
 use Rattle.std.proofs.Common.{◌≡◌, ℕ, List, [], ◌∷◌, refl, sym, subst, ◌∙◌}
 use Rattle.std.specs.Prelude.{Ok, Err}
-use Rattle.cjc_cmd_convert.specs.Bytes.declared.fault.Refusal.{Refusal}
-use Rattle.cjc_cmd_convert.specs.Shelf.Command.Plan.{Verdict, complete, refused}
-use Rattle.cjc_cmd_convert.specs.Shelf.Shelf.{Files}
-use Rattle.cjc_cmd_convert.specs.Shelf.declared.command.status.Todo.{Todo}
+use Rattle.cjc_cmd_card.specs.Bytes.declared.fault.Refusal.{Refusal}
+use Rattle.cjc_cmd_card.specs.Shelf.Command.Plan.{Verdict, complete, refused}
+use Rattle.cjc_cmd_card.specs.Shelf.Shelf.{Files}
+use Rattle.cjc_cmd_card.specs.Shelf.declared.command.status.Todo.{Todo}
 use Rattle.cjc_cmd_convert.specs.Conversion.Conversion.{Conversion, IsConverted, IsRefused}
-use Rattle.cjc_cmd_card.specs.Judge.Rules.{IsFirstRefused}
+use Rattle.cjc_cmd_convert.specs.Judge.Rules.{IsFirstRefused}
 use Rattle.cjc_cmd_card.specs.Report.Runs.{AnyBreaks, Runs}
 use Rattle.cjc_cmd_card.specs.declared.running.input.Input.{Input as ComponentsInput}
 use Rattle.cjc_cmd_card.proofs.CmdJvmOneAnswer.{one_refusal_of_runs, never_both as never_run_and_refused}
-use Rattle.cjc_cmd_convert.specs.LowerList.Listed.{ListTree}
-use Rattle.cjc_cmd_convert.specs.Script.declared.report.Report.{Report}
-use Rattle.cjc_cmd_card.specs.CmdJvm.Running.Ready.{Breaks}
-use Rattle.cjc_cmd_card.specs.CmdJvm.declared.running.input.Input.{Input}
-use Rattle.cjc_cmd_card.specs.ScriptText.Printed.{report_text}
+use Rattle.cjc_cmd_convert.specs.List.Listed.{ListTree}
+use Rattle.cjc_cmd_card.specs.Script.declared.report.Report.{Report}
+use Rattle.cjc_cmd_card.specs.LowerCmdJvm.Running.Ready.{Breaks}
+use Rattle.cjc_cmd_card.specs.LowerCmdJvm.declared.running.input.Input.{Input}
+use Rattle.cjc_cmd_card.specs.LowerScriptText.Printed.{report_text}
 use Rattle.cjc_cmd_make.specs.Report.Package.{made_files, script_name}
 use Rattle.cjc_cmd_make.specs.Report.Runs.{IsMade, IsReportByName, IsReportByToken, Refuses, RefusesComponents}
 use Rattle.cjc_cmd_make.specs.Report.Runs.{RefusesRuns, card_end, of_class_files, of_components, of_list, of_package}

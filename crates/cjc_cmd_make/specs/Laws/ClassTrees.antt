@@ -1,10 +1,10 @@
 -- The trees of the classes that are made (Java Virtual Machine Specification, chapter 4).
 use Rattle.std.specs.Prelude.{ℕ, ◌%◌, ◌^◌, List, [], ◌∷◌, ◌++◌, Some, codes}
 use Rattle.std.specs.Int.{w16, to_be_bytes}
-use Rattle.cjc_cmd_convert.specs.Bytes.declared.fault.MemberId.{MemberId}
-use Rattle.cjc_cmd_convert.specs.ClassFile.declared.tree.ClassTree.{ClassTree}
-use Rattle.cjc_cmd_convert.specs.ClassFile.declared.tree.MethodTree.{MethodTree}
-use Rattle.cjc_cmd_convert.specs.ClassFile.PoolItem.{PoolItem, Class, Method, Other}
+use Rattle.cjc_cmd_card.specs.Bytes.declared.fault.MemberId.{MemberId}
+use Rattle.cjc_cmd_card.specs.ClassFile.declared.tree.ClassTree.{ClassTree}
+use Rattle.cjc_cmd_card.specs.ClassFile.declared.tree.MethodTree.{MethodTree}
+use Rattle.cjc_cmd_card.specs.ClassFile.PoolItem.{PoolItem, Class, Method, Other}
 
 -- a method by its class, name and descriptor
 abbrev pub member : (class name desc : List ℕ) → MemberId

@@ -1,8 +1,8 @@
 -- The tree of the export file of java/lang.
 use Rattle.std.specs.Prelude.{ℕ, true, List, [], ◌∷◌, codes}
-use Rattle.cjc_cmd_convert.specs.ExportFile.declared.tree.ExportClass.{ExportClass}
-use Rattle.cjc_cmd_convert.specs.ExportFile.declared.tree.ExportMethod.{ExportMethod}
-use Rattle.cjc_cmd_convert.specs.ExportFile.declared.tree.ExportTree.{ExportTree}
+use Rattle.cjc_cmd_card.specs.ExportFile.declared.tree.ExportClass.{ExportClass}
+use Rattle.cjc_cmd_card.specs.ExportFile.declared.tree.ExportMethod.{ExportMethod}
+use Rattle.cjc_cmd_card.specs.ExportFile.declared.tree.ExportTree.{ExportTree}
 
 -- a public method with token 0
 abbrev pub method : (name desc : List ℕ) → ExportMethod

@@ -1,7 +1,7 @@
 -- The classes that are made, each as the items of its file.
 use Rattle.std.specs.Prelude.{ℕ, ◌+◌, ◌-◌, ◌%◌, ◌==◌, if◌then◌else◌, List, [], ◌∷◌, ◌++◌, codes, decimal}
-use Rattle.cjc_cmd_convert.specs.Bytes.AccessFlags.{acc_public, acc_static, acc_super}
-use Rattle.cjc_cmd_convert.specs.Bytecode.Jvm as jvm
+use Rattle.cjc_cmd_card.specs.Bytes.AccessFlags.{acc_public, acc_static, acc_super}
+use Rattle.cjc_cmd_card.specs.Bytecode.Jvm as jvm
 use Rattle.cjc_cmd_make.specs.declared.package.instruction.Instruction.{Instruction}
 use Rattle.cjc_cmd_make.specs.declared.package.instruction.Instruction.TheVariants.{Alone, Followed}
 use Rattle.cjc_cmd_make.specs.declared.package.class_file.Method.{Method}

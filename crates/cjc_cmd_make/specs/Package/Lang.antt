@@ -3,7 +3,7 @@
 -- with Object, Throwable and nine exceptions.
 use Rattle.std.specs.Prelude.{ℕ, List, [], ◌∷◌, ◌++◌, length, codes}
 use Rattle.std.specs.List.{flat_map}
-use Rattle.cjc_cmd_convert.specs.Bytes.AccessFlags.{acc_public}
+use Rattle.cjc_cmd_card.specs.Bytes.AccessFlags.{acc_public}
 use Rattle.cjc_cmd_make.specs.Package.ClassFile.{two, four}
 
 -- an entry of the constant pool (section 5.6); an index of an entry counts from 0

@@ -1,12 +1,12 @@
 -- The files of a shelf that has a made package alone.
 use Rattle.std.specs.Prelude.{ℕ, ◌+◌, List, [], ◌∷◌, ◌++◌, codes, decimal}
 use Rattle.std.specs.FinMap.{empty}
-use Rattle.cjc_cmd_convert.specs.Shelf.Command.Publish.{written_files}
-use Rattle.cjc_cmd_convert.specs.Shelf.declared.command.status.File.{File}
+use Rattle.cjc_cmd_card.specs.Shelf.Command.Publish.{written_files}
+use Rattle.cjc_cmd_card.specs.Shelf.declared.command.status.File.{File}
 use Rattle.cjc_cmd_make.specs.Package.Package.{package_of}
 use Rattle.cjc_cmd_make.specs.declared.package.made.Made.{Made}
 use Rattle.cjc_cmd_convert.specs.Publication.{named}
-use Rattle.cjc_cmd_convert.specs.Shelf.Shelf.{Files}
+use Rattle.cjc_cmd_card.specs.Shelf.Shelf.{Files}
 
 -- the name of the list
 abbrev pub list_name : List ℕ

@@ -1,27 +1,27 @@
 -- What `make NUMBER SIZE` prints: the summary of the package that is made, of its conversion, and of its runs by name
 -- and by token.
 use Rattle.std.specs.Prelude.{◌≡◌, ℕ, [], map, Result, Ok, Err}
-use Rattle.cjc_cmd_convert.specs.Bytes.declared.fault.Refusal.{Refusal}
+use Rattle.cjc_cmd_card.specs.Bytes.declared.fault.Refusal.{Refusal}
 use Rattle.cjc_cmd_card.specs.Report.Runs as card_runs
 use Rattle.cjc_cmd_card.specs.Report.Runs.{AnyBreaks}
 use Rattle.cjc_cmd_card.specs.Running.Reads.{plan_of_card}
 use Rattle.cjc_cmd_card.specs.Running.Ready as components
 use Rattle.cjc_cmd_card.specs.declared.running.input.Input.{Input as ComponentsInput}
 use Rattle.cjc_cmd_card.specs.declared.running.ready.Ready.{Ready as ComponentsReady}
-use Rattle.cjc_cmd_convert.specs.Shelf.Command.Plan.{Plan, has, Verdict, verdict, complete, refused}
-use Rattle.cjc_cmd_convert.specs.Shelf.Command.Publish.{written_files}
-use Rattle.cjc_cmd_convert.specs.Shelf.declared.command.status.Todo.{Todo}
+use Rattle.cjc_cmd_card.specs.Shelf.Command.Plan.{Plan, has, Verdict, verdict, complete, refused}
+use Rattle.cjc_cmd_card.specs.Shelf.Command.Publish.{written_files}
+use Rattle.cjc_cmd_card.specs.Shelf.declared.command.status.Todo.{Todo}
 use Rattle.cjc_cmd_convert.specs.Conversion.Promise.{KeepsPromise}
 use Rattle.cjc_cmd_convert.specs.Conversion.Conversion.{Conversion, IsConverted, IsRefused}
-use Rattle.cjc_cmd_card.specs.Judge.Rules.{IsFirstRefused}
-use Rattle.cjc_cmd_card.specs.CmdJvm.Runs.{IsReport}
+use Rattle.cjc_cmd_convert.specs.Judge.Rules.{IsFirstRefused}
+use Rattle.cjc_cmd_card.specs.LowerCmdJvm.Runs.{IsReport}
 use Rattle.cjc_cmd_convert.specs.Publication.{below, files_made}
-use Rattle.cjc_cmd_card.specs.CmdJvm.Running.Reads.{plan_of_run}
-use Rattle.cjc_cmd_card.specs.CmdJvm.Running.Ready.{Breaks, IsReady}
-use Rattle.cjc_cmd_card.specs.CmdJvm.declared.running.input.Input.{Input}
-use Rattle.cjc_cmd_card.specs.CmdJvm.declared.running.ready.Ready.{Ready}
-use Rattle.cjc_cmd_convert.specs.Script.declared.report.Report.{Report}
-use Rattle.cjc_cmd_convert.specs.Shelf.Shelf.{Files}
+use Rattle.cjc_cmd_card.specs.LowerCmdJvm.Running.Reads.{plan_of_run}
+use Rattle.cjc_cmd_card.specs.LowerCmdJvm.Running.Ready.{Breaks, IsReady}
+use Rattle.cjc_cmd_card.specs.LowerCmdJvm.declared.running.input.Input.{Input}
+use Rattle.cjc_cmd_card.specs.LowerCmdJvm.declared.running.ready.Ready.{Ready}
+use Rattle.cjc_cmd_card.specs.Script.declared.report.Report.{Report}
+use Rattle.cjc_cmd_card.specs.Shelf.Shelf.{Files}
 use Rattle.cjc_cmd_make.specs.Report.Package.{folder, list_name, made_files, script_name}
 use Rattle.cjc_cmd_make.specs.Report.Summary.{size_item, summary_lines}
 

@@ -1,12 +1,12 @@
 -- The summary of a package and of its two runs.
 use Rattle.std.specs.Prelude.{ℕ, ◌+◌, ◌*◌, List, [], ◌∷◌, ◌++◌, codes, decimal, count_by, filter_map, bytes_eq, Bool}
 use Rattle.std.specs.Prelude.{true, false, Option, None, pos}
-use Rattle.cjc_cmd_convert.specs.Script.declared.report.Note.{Note}
-use Rattle.cjc_cmd_convert.specs.Script.declared.report.Note.TheVariants as notes
-use Rattle.cjc_cmd_convert.specs.Script.declared.report.Report.{Report}
-use Rattle.cjc_cmd_convert.specs.Script.declared.value.Value.{Value}
-use Rattle.cjc_cmd_convert.specs.Script.declared.value.Value.TheVariants.{Num}
-use Rattle.cjc_cmd_card.specs.ScriptText.Printed.{line, report_text, value_text}
+use Rattle.cjc_cmd_card.specs.Script.declared.report.Note.{Note}
+use Rattle.cjc_cmd_card.specs.Script.declared.report.Note.TheVariants as notes
+use Rattle.cjc_cmd_card.specs.Script.declared.report.Report.{Report}
+use Rattle.cjc_cmd_card.specs.Script.declared.value.Value.{Value}
+use Rattle.cjc_cmd_card.specs.Script.declared.value.Value.TheVariants.{Num}
+use Rattle.cjc_cmd_card.specs.LowerScriptText.Printed.{line, report_text, value_text}
 
 -- the size item of a component: the two bytes behind its tag (Java Card Virtual Machine Specification 2.2.2, section
 -- 6.1)

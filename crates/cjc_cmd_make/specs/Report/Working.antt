@@ -1,13 +1,13 @@
 -- How what is made comes to its end.
 use Rattle.std.specs.Prelude.{◌≡◌, ◌⊎◌, ℕ}
-use Rattle.cjc_cmd_convert.specs.Bytes.declared.fault.Fault.{Fault}
-use Rattle.cjc_cmd_convert.specs.Bytes.declared.fault.Fault.TheVariants as faults
-use Rattle.cjc_cmd_convert.specs.Bytes.declared.fault.Refusal.{Refusal}
-use Rattle.cjc_cmd_convert.specs.Shelf.Command.Plan.{refused}
-use Rattle.cjc_cmd_convert.specs.Shelf.declared.command.status.Status.{Status}
-use Rattle.cjc_cmd_convert.specs.Shelf.declared.command.status.Status.TheVariants as status
-use Rattle.cjc_cmd_card.specs.CmdJvm.declared.running.input.Input.{Input}
-use Rattle.cjc_cmd_convert.specs.Shelf.Shelf.{Files}
+use Rattle.cjc_cmd_card.specs.Bytes.declared.fault.Fault.{Fault}
+use Rattle.cjc_cmd_card.specs.Bytes.declared.fault.Fault.TheVariants as faults
+use Rattle.cjc_cmd_card.specs.Bytes.declared.fault.Refusal.{Refusal}
+use Rattle.cjc_cmd_card.specs.Shelf.Command.Plan.{refused}
+use Rattle.cjc_cmd_card.specs.Shelf.declared.command.status.Status.{Status}
+use Rattle.cjc_cmd_card.specs.Shelf.declared.command.status.Status.TheVariants as status
+use Rattle.cjc_cmd_card.specs.LowerCmdJvm.declared.running.input.Input.{Input}
+use Rattle.cjc_cmd_card.specs.Shelf.Shelf.{Files}
 use Rattle.cjc_cmd_convert.specs.Conversion.Conversion.{Conversion, IsRefused}
 use Rattle.cjc_cmd_make.specs.Report.Runs.{Refuses, RefusesComponents, RefusesRuns, card_end, reads_end}
 

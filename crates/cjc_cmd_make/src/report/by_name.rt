@@ -1,9 +1,9 @@
 //! The run by name of what was read. Called by making.rt. It knows no token and no component.
 
 ghost use Rattle.std.specs.Prelude.{◌≡◌, IfErr, IfOk};
-ghost use Rattle.cjc_cmd_card.specs.Judge.Rules.{IsFirstFault};
-ghost use Rattle.cjc_cmd_card.specs.CmdJvm.Running.Reads.{IsInput};
-ghost use Rattle.cjc_cmd_card.specs.CmdJvm.Running.Ready.{Breaks, IsReady};
+ghost use Rattle.cjc_cmd_convert.specs.Judge.Rules.{IsFirstFault};
+ghost use Rattle.cjc_cmd_card.specs.LowerCmdJvm.Running.Reads.{IsInput};
+ghost use Rattle.cjc_cmd_card.specs.LowerCmdJvm.Running.Ready.{Breaks, IsReady};
 ghost use Rattle.cjc_cmd_make.specs.Report.Package.{script_name};
 ghost use Rattle.cjc_cmd_make.specs.Report.Runs.{IsReportByName};
 

@@ -2,11 +2,11 @@
 //! what it reads, and refused as there.
 
 ghost use Rattle.std.specs.Prelude.{◌≡◌, IfErr, IfOk};
-ghost use Rattle.cjc_cmd_card.specs.Judge.Rules.{IsFirstFault};
+ghost use Rattle.cjc_cmd_convert.specs.Judge.Rules.{IsFirstFault};
 ghost use Rattle.cjc_cmd_card.specs.Report.Runs.{AnyBreaks};
 ghost use Rattle.cjc_cmd_card.specs.Running.Reads.{IsInput};
-ghost use Rattle.cjc_cmd_convert.specs.Shelf.Command.Plan.{complete};
-ghost use Rattle.cjc_cmd_convert.specs.Shelf.Memory.{clean_shelved, files_of};
+ghost use Rattle.cjc_cmd_card.specs.Shelf.Command.Plan.{complete};
+ghost use Rattle.cjc_cmd_card.specs.Shelf.Memory.{clean_shelved, files_of};
 ghost use Rattle.cjc_cmd_make.specs.Report.Package.{script_name};
 ghost use Rattle.cjc_cmd_make.specs.Report.Runs.{IsComponentsReport, IsReportByToken, card_end};
 ghost use Rattle.cjc_cmd_make.specs.Report.Working.{IsReadFault, IsTokenFault};

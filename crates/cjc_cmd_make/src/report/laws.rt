@@ -1,8 +1,8 @@
 //! What holds of the answers to all numbers and sizes. It has no code that runs.
 
 ghost use Rattle.std.specs.Prelude.{◌≡◌, ℕ, Ok, Err};
-ghost use Rattle.cjc_cmd_convert.specs.Bytes.declared.fault.Refusal.{Refusal};
-ghost use Rattle.cjc_cmd_convert.specs.Shelf.declared.command.status.Todo.{Todo};
+ghost use Rattle.cjc_cmd_card.specs.Bytes.declared.fault.Refusal.{Refusal};
+ghost use Rattle.cjc_cmd_card.specs.Shelf.declared.command.status.Todo.{Todo};
 ghost use Rattle.cjc_cmd_make.specs.Report.Runs.{Makes};
 
 use cjc_cmd_card::report::one_answer as one_run;

@@ -2,14 +2,14 @@
 //! and what is written of it stand on a shelf in memory.
 
 ghost use Rattle.std.specs.Prelude.{◌≡◌, ◌≤◌, ◌^◌, All, length, map, true, IfErr, IfOk, OnOk};
-ghost use Rattle.cjc_cmd_convert.specs.Shelf.Command.Gather.{Gathers, Judged};
-ghost use Rattle.cjc_cmd_convert.specs.Shelf.Command.Plan.{complete};
-ghost use Rattle.cjc_cmd_convert.specs.Shelf.Command.Publish.{written_files};
+ghost use Rattle.cjc_cmd_card.specs.Shelf.Command.Gather.{Gathers, Judged};
+ghost use Rattle.cjc_cmd_card.specs.Shelf.Command.Plan.{complete};
+ghost use Rattle.cjc_cmd_card.specs.Shelf.Command.Publish.{written_files};
 ghost use Rattle.cjc_cmd_convert.specs.Conversion.Promise.{KeepsPromise};
 ghost use Rattle.cjc_cmd_convert.specs.Conversion.Conversion.{IsConverted};
 ghost use Rattle.cjc_cmd_convert.specs.Publication.{below, files_made};
-ghost use Rattle.cjc_cmd_card.specs.CmdJvm.Running.Reads.{IsInput};
-ghost use Rattle.cjc_cmd_convert.specs.Shelf.Memory.{clean_shelved, files_of};
+ghost use Rattle.cjc_cmd_card.specs.LowerCmdJvm.Running.Reads.{IsInput};
+ghost use Rattle.cjc_cmd_card.specs.Shelf.Memory.{clean_shelved, files_of};
 ghost use Rattle.cjc_cmd_make.specs.Report.Package.{folder, made_files};
 ghost use Rattle.cjc_cmd_make.specs.Report.Runs.{IsMade, IsSummary, Makes, plan_of_make, reads_end};
 ghost use Rattle.cjc_cmd_make.specs.Report.Working.{IsConversionFault, IsListFault, IsMakeFault, IsRunsFault};

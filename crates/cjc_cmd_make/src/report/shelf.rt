@@ -1,8 +1,8 @@
 //! A shelf in memory for a made package. Called by making.rt. It knows neither list nor class file.
 
 ghost use Rattle.std.specs.Prelude.{◌≡◌, ◌≤◌, IfOk, OnOk};
-ghost use Rattle.cjc_cmd_convert.specs.Shelf.Command.Publish.{written_files};
-ghost use Rattle.cjc_cmd_convert.specs.Shelf.Memory.{clean_shelved, files_of};
+ghost use Rattle.cjc_cmd_card.specs.Shelf.Command.Publish.{written_files};
+ghost use Rattle.cjc_cmd_card.specs.Shelf.Memory.{clean_shelved, files_of};
 ghost use Rattle.cjc_cmd_make.specs.Report.Package.{class_file_name, made_files, named_classes, named_files};
 
 use crate::package::package;

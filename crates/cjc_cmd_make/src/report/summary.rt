@@ -1,7 +1,7 @@
 //! The summary of a package and of its two runs, as lines. Called by making.rt. It knows no machine.
 
 ghost use Rattle.std.specs.Prelude.{◌≡◌, ◌≤◌, ◌++◌, [], codes, count_by, decimal, IfOk, OnOk};
-ghost use Rattle.cjc_cmd_card.specs.ScriptText.Printed.{line, value_text};
+ghost use Rattle.cjc_cmd_card.specs.LowerScriptText.Printed.{line, value_text};
 ghost use Rattle.cjc_cmd_make.specs.Report.Summary.{agree_word, is_result, last_result, package_lines, prints_alike};
 ghost use Rattle.cjc_cmd_make.specs.Report.Summary.{run_lines, size_item, summary_lines, value_of};
 

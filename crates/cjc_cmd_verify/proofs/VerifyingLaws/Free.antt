@@ -1,32 +1,29 @@
 -- What is known of components that were tested: they break none of the rules that `card` tests, and what they break of
 -- 721 to 729 is broken of what is spelt, and the other way.
-use Rattle.std.proofs.Common.{◌≡◌, inl, inr, [], map, refl, sym, ap, subst, ◌∙◌}
+use Rattle.std.proofs.Common.{◌≡◌, inl, inr, [], refl, sym, ap, subst, ◌∙◌}
 use Rattle.std.specs.Prelude.{Some, Result, Ok, Err, IfErr, OnOk}
-use Rattle.cjc_verify_theorem.specs.CheckRules.Complete.{Complete, complete}
-use Rattle.cjc_verify_theorem.specs.CheckRules.Consistent.{break_at}
-use Rattle.cjc_cmd_card.proofs.ReportLaws.Free.{codes_are, first_fault, of_pair, spelt, trees, world_is}
-use Rattle.cjc_cmd_card.proofs.ReportLaws.Once.{SentencesHold, ready_unbroken}
+use Rattle.cjc_cmd_card.specs.CheckRules.Complete.{Complete, complete}
+use Rattle.cjc_cmd_card.proofs.ReportLaws.Free.{codes_are, first_fault, none_first, spelt, trees, world_is}
+use Rattle.cjc_cmd_card.proofs.ReportLaws.Once.{SentencesHold}
 use Rattle.cjc_cmd_card.specs.Report.Runs as by_token
 use Rattle.cjc_cmd_card.specs.Running.Ready.{Breaks as Tested, IsReady}
 use Rattle.cjc_cmd_card.specs.declared.running.input.Input.{Input}
 use Rattle.cjc_cmd_card.specs.declared.running.ready.Ready.{Ready}
-use Rattle.cjc_verify_theorem.specs.CapRead.declared.tree.CapTree.{CapTree}
 use Rattle.cjc_cmd_verify.specs.Verify.{AnyBreaks, AreTyped, BreaksTyping}
-use Rattle.cjc_cmd_card.proofs.BytesBrokenRules.{none_among}
 use Rattle.cjc_cmd_card.proofs.BytesPlain.{the_same}
 use Rattle.cjc_cmd_card.proofs.ClinitOneImage.{one-image}
 use Rattle.cjc_cmd_card.proofs.JudgeFirsts.{first_level_stops, one_spelling, second_level_stops}
-use Rattle.cjc_verify_theorem.specs.Bytecode.PackageCodes.{all_codes}
-use Rattle.cjc_verify_theorem.specs.Bytes.Breaks.{Among, Break}
-use Rattle.cjc_verify_theorem.specs.Bytes.declared.fault.Fault.{Fault}
-use Rattle.cjc_verify_theorem.specs.Clinit.Image.{IsImage}
-use Rattle.cjc_cmd_card.specs.Judge.Rules.{IsFirstFault, files_spelt, has_applets, on_first, on_second}
-use Rattle.cjc_cmd_card.specs.Judge.Spelt.{classes_of}
-use Rattle.cjc_verify_theorem.specs.World.Files.{Files}
-use Rattle.cjc_verify_theorem.specs.World.declared.image.StaticImage.{StaticImage}
-use Rattle.cjc_verify_theorem.specs.Components.Paired.Pairs.{ArePaired}
-use Rattle.cjc_verify_theorem.specs.LowerVerify.Pairs.{Pair, pair_of}
-use Rattle.cjc_verify_theorem.specs.LowerVerify.Verified.{Breaks, IsRefused, IsVerified}
+use Rattle.cjc_cmd_card.specs.Bytecode.PackageCodes.{all_codes}
+use Rattle.cjc_cmd_card.specs.Bytes.Breaks.{Break}
+use Rattle.cjc_cmd_card.specs.Bytes.declared.fault.Fault.{Fault}
+use Rattle.cjc_cmd_card.specs.Clinit.Image.{IsImage}
+use Rattle.cjc_verify_theorem.specs.Judge.Rules.{IsFirstFault, files_spelt, has_applets}
+use Rattle.cjc_verify_theorem.specs.Judge.Spelt.{classes_of}
+use Rattle.cjc_cmd_card.specs.World.Files.{Files}
+use Rattle.cjc_cmd_card.specs.World.declared.image.StaticImage.{StaticImage}
+use Rattle.cjc_cmd_card.specs.Components.Paired.Pairs.{ArePaired}
+use Rattle.cjc_verify_theorem.specs.Verify.Pairs.{Pair, pair_of}
+use Rattle.cjc_verify_theorem.specs.Verify.Verified.{Breaks, IsRefused, IsVerified}
 use Rattle.cjc_verify_theorem.specs.FairExports.Fair.{ExportsAreFair}
 use Rattle.cjc_verify_theorem.specs.NeverStuck.{IsNeverStuck}
 
@@ -73,21 +70,13 @@ module _ (hold : SentencesHold) (input : Input) (ready : Ready) (is : IsReady in
       λ i. pair_of (has_applets list) (world i) (one i) (same i) in
       subst (λ (q : Pair). Breaks q b) pairs p.broken
 
-  -- none of the rules that `card` tests
-  pub none_first : (let judged = ready.judged in ArePaired judged.world image whole) → (b : Break)
-      → by_token.AnyBreaks input [] b → ⊥
-  none_first paired b (on_first x) = ready_unbroken hold input [] ready is b x
-  none_first paired b (on_second none p) =
-      none_among b (subst (Among b) (ap (map (break_at 719)) paired) (of_pair hold input [] ready is image is_image
-      whole whole_is b p))
-
   -- the first of 721 to 729 is the first of all
   pub typing_first : (let judged = ready.judged in ArePaired judged.world image whole) → (e : Fault)
       → IsRefused tested e → IsFirstFault (AnyBreaks input) e
   typing_first paired e (inl none) = inl none
   typing_first paired e (inr (b, first, is_refusal)) = inr (
     b.refusal,
-    second_level_stops (none_first paired) (record {
+    second_level_stops (none_first hold input ready is image is_image whole whole_is paired) (record {
       broken = b;
       first = record {
         breaks = typing_of b first.breaks;
@@ -103,11 +92,6 @@ module _ (hold : SentencesHold) (input : Input) (ready : Ready) (is : IsReady in
       → IfErr result (IsRefused tested) → IfErr result (IsFirstFault (AnyBreaks input))
   types_fault paired (Ok done) refused = tt
   types_fault paired (Err e) refused = typing_first paired e refused
-
--- components that are of the package, however they are told
-pub paired_by : (tree : CapTree) (c d : Complete) (world : Files) (image : StaticImage) → complete tree ≡ Some c
-    → complete tree ≡ Some d → ArePaired world image c → ArePaired world image d
-paired_by tree c d world image a b paired = subst (ArePaired world image) (the_same c d (sym a ∙ b)) paired
 
 -- no rule is broken
 pub are_typed : (input : Input) (ready : Ready) (is : IsReady input [] ready) (image : StaticImage)

@@ -1,26 +1,27 @@
 -- What was read decides one answer.
 use Rattle.std.proofs.Common.{◌≡◌, ◌+◌, inl, inr, List, [], ◌++◌, map, refl}
 use Rattle.std.specs.Prelude.{Ok, Err, flat_map}
-use Rattle.cjc_verify_theorem.specs.CheckRules.Consistent.{break_at}
+use Rattle.cjc_cmd_card.specs.CheckRules.Consistent.{break_at}
 use Rattle.cjc_cmd_card.proofs.ReportLaws.OneAnswer.{one_of_pair}
 use Rattle.cjc_cmd_card.proofs.ReportLaws.Once.{SentencesHold, one_break}
 use Rattle.cjc_cmd_card.specs.declared.running.input.Input.{Input}
 use Rattle.cjc_cmd_card.proofs.CmdCheckOneAnswer.{OfComponent, in_spots, of_components}
-use Rattle.cjc_cmd_card.specs.LowerShelf.declared.command.status.Todo.{Todo}
-use Rattle.cjc_cmd_verify.proofs.VerifyingLaws.Free.{none_first, of_typing}
+use Rattle.cjc_cmd_card.specs.Shelf.declared.command.status.Todo.{Todo}
+use Rattle.cjc_cmd_card.proofs.ReportLaws.Free.{none_first}
+use Rattle.cjc_cmd_verify.proofs.VerifyingLaws.Free.{of_typing}
 use Rattle.cjc_cmd_verify.specs.Verify.{AnyBreaks, BreaksTyping, Verifies}
 use Rattle.cjc_cmd_card.proofs.BytesFirsts.{among_either}
 use Rattle.cjc_cmd_card.proofs.JudgeOneRefusal.{one_first_of, one_on_levels}
-use Rattle.cjc_verify_theorem.specs.Bytes.Breaks.{Among, Break}
-use Rattle.cjc_verify_theorem.specs.Bytes.declared.fault.Refusal.{Refusal}
-use Rattle.cjc_cmd_card.specs.Judge.Rules.{on_first, on_second}
-use Rattle.cjc_verify_theorem.specs.LowerVerify.Bodies.{bodies}
-use Rattle.cjc_verify_theorem.specs.LowerVerify.Described.{all_array_spots, described_spots}
-use Rattle.cjc_verify_theorem.specs.LowerVerify.Headers.{header_spots}
-use Rattle.cjc_verify_theorem.specs.LowerVerify.Infos.{all_abstract_spots, all_info_spots, all_table_spots}
-use Rattle.cjc_verify_theorem.specs.LowerVerify.Pairs.{Pair}
-use Rattle.cjc_verify_theorem.specs.LowerVerify.Verified.{Breaks, class_breaks, header_breaks, in_code, listed}
-use Rattle.cjc_verify_theorem.specs.LowerVerify.Verified.{listed_breaks}
+use Rattle.cjc_cmd_card.specs.Bytes.Breaks.{Among, Break}
+use Rattle.cjc_cmd_card.specs.Bytes.declared.fault.Refusal.{Refusal}
+use Rattle.cjc_verify_theorem.specs.Judge.Rules.{on_first, on_second}
+use Rattle.cjc_verify_theorem.specs.Verify.Bodies.{bodies}
+use Rattle.cjc_verify_theorem.specs.Verify.Described.{all_array_spots, described_spots}
+use Rattle.cjc_verify_theorem.specs.Verify.Headers.{header_spots}
+use Rattle.cjc_verify_theorem.specs.Verify.Infos.{all_abstract_spots, all_info_spots, all_table_spots}
+use Rattle.cjc_verify_theorem.specs.Verify.Pairs.{Pair}
+use Rattle.cjc_verify_theorem.specs.Verify.Verified.{Breaks, class_breaks, header_breaks, in_code, listed}
+use Rattle.cjc_verify_theorem.specs.Verify.Verified.{listed_breaks}
 
 -- ---- 721 to 729 are told of places in components
 

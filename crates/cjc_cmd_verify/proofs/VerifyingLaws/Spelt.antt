@@ -5,34 +5,34 @@ use Rattle.std.proofs.Common.{◌≡◌, ◌⊎◌, ◌<◌, ◌==◌, ℕ, suc,
 use Rattle.std.proofs.Common.{false, eqb-true, List, [], ◌∷◌, length, slice_get}
 use Rattle.std.specs.Prelude.{Option, Some, None, Result, Ok, Err}
 use Rattle.std.specs.List.{AllByRecursion}
-use Rattle.cjc_verify_theorem.specs.CheckRules.Complete.{Complete, complete, complete_with}
+use Rattle.cjc_cmd_card.specs.CheckRules.Complete.{Complete, complete, complete_with}
 use Rattle.cjc_cmd_card.specs.Running.Reads.{IsInput}
 use Rattle.cjc_cmd_card.specs.Running.Ready.{IsReady, tested}
 use Rattle.cjc_cmd_card.specs.declared.running.input.Input.{Input}
 use Rattle.cjc_cmd_card.specs.declared.running.ready.Ready.{Ready}
-use Rattle.cjc_verify_theorem.specs.CapRead.Component.{component, either, info}
-use Rattle.cjc_verify_theorem.specs.CapRead.Kinds.{descriptor_of, method_of, pool_of}
-use Rattle.cjc_verify_theorem.specs.CapRead.declared.tree.CapTree.{CapTree}
-use Rattle.cjc_verify_theorem.specs.CapRead.declared.tree.ClassInfo.{ClassInfo}
-use Rattle.cjc_verify_theorem.specs.CapRead.declared.tree.ConstantPool.{ConstantPool}
-use Rattle.cjc_verify_theorem.specs.CapRead.declared.tree.Descriptor.{Descriptor}
-use Rattle.cjc_verify_theorem.specs.CapRead.declared.tree.Import.{Import}
-use Rattle.cjc_verify_theorem.specs.CapRead.declared.tree.Method.{Method}
-use Rattle.cjc_verify_theorem.specs.CapRead.declared.tree.ReferenceLocation.{ReferenceLocation}
-use Rattle.cjc_verify_theorem.specs.CapRead.declared.tree.StaticField.{StaticField}
-use Rattle.cjc_verify_theorem.specs.CapRead.declared.tree.Component.{Component}
-use Rattle.cjc_verify_theorem.specs.CapRead.declared.tree.Component.TheVariants as components
-use Rattle.cjc_cmd_card.specs.LowerCmdCheck.Folder.Breaks.{cap_in, cap_of, front, with_component, with_components}
-use Rattle.cjc_cmd_card.specs.LowerCmdCheck.Folder.Breaks.{with_read}
-use Rattle.cjc_cmd_card.specs.LowerCmdCheck.Folder.Reads.{read_component}
-use Rattle.cjc_cmd_card.specs.LowerCmdCheck.declared.folder.folder.Parts.{Parts}
-use Rattle.cjc_verify_theorem.specs.Bytes.Format.{FileSpells, Format, Spells, gives, looked_up, ◌>>=◌}
-use Rattle.cjc_verify_theorem.specs.Clinit.Image.{IsImage}
-use Rattle.cjc_cmd_card.specs.Judge.Rules.{has_applets}
-use Rattle.cjc_verify_theorem.specs.World.declared.image.StaticImage.{StaticImage}
-use Rattle.cjc_verify_theorem.specs.Components.Paired.Pairs.{ArePaired}
-use Rattle.cjc_verify_theorem.specs.LowerVerify.Pairs.{pair_of}
-use Rattle.cjc_verify_theorem.specs.LowerVerify.Verified.{IsVerified}
+use Rattle.cjc_cmd_card.specs.CapRead.Component.{component, either, info}
+use Rattle.cjc_cmd_card.specs.CapRead.Kinds.{descriptor_of, method_of, pool_of}
+use Rattle.cjc_cmd_card.specs.CapRead.declared.tree.CapTree.{CapTree}
+use Rattle.cjc_cmd_card.specs.CapRead.declared.tree.ClassInfo.{ClassInfo}
+use Rattle.cjc_cmd_card.specs.CapRead.declared.tree.ConstantPool.{ConstantPool}
+use Rattle.cjc_cmd_card.specs.CapRead.declared.tree.Descriptor.{Descriptor}
+use Rattle.cjc_cmd_card.specs.CapRead.declared.tree.Import.{Import}
+use Rattle.cjc_cmd_card.specs.CapRead.declared.tree.Method.{Method}
+use Rattle.cjc_cmd_card.specs.CapRead.declared.tree.ReferenceLocation.{ReferenceLocation}
+use Rattle.cjc_cmd_card.specs.CapRead.declared.tree.StaticField.{StaticField}
+use Rattle.cjc_cmd_card.specs.CapRead.declared.tree.Component.{Component}
+use Rattle.cjc_cmd_card.specs.CapRead.declared.tree.Component.TheVariants as components
+use Rattle.cjc_cmd_card.specs.CmdCheck.Folder.Breaks.{cap_in, cap_of, front, with_component, with_components}
+use Rattle.cjc_cmd_card.specs.CmdCheck.Folder.Breaks.{with_read}
+use Rattle.cjc_cmd_card.specs.CmdCheck.Folder.Reads.{read_component}
+use Rattle.cjc_cmd_card.specs.CmdCheck.declared.folder.folder.Parts.{Parts}
+use Rattle.cjc_cmd_card.specs.Bytes.Format.{FileSpells, Format, Spells, gives, looked_up, ◌>>=◌}
+use Rattle.cjc_cmd_card.specs.Clinit.Image.{IsImage}
+use Rattle.cjc_verify_theorem.specs.Judge.Rules.{has_applets}
+use Rattle.cjc_cmd_card.specs.World.declared.image.StaticImage.{StaticImage}
+use Rattle.cjc_cmd_card.specs.Components.Paired.Pairs.{ArePaired}
+use Rattle.cjc_verify_theorem.specs.Verify.Pairs.{pair_of}
+use Rattle.cjc_verify_theorem.specs.Verify.Verified.{IsVerified}
 use Rattle.cjc_verify_theorem.specs.Passed.{AreBytes, IsPassed, IsSpelt}
 use Rattle.cjc_cmd_card.proofs.BytesBools.{by_if}
 use Rattle.cjc_cmd_card.proofs.BytesLaws.{file_ok}

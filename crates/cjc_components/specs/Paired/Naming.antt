@@ -4,30 +4,30 @@
 -- 6.13).
 use Rattle.std.specs.Prelude.{ℕ, ◌+◌, List, [], ◌∷◌, ◌++◌, length, map, flat_map, filter, unwrap_or, Bool}
 use Rattle.std.specs.Prelude.{if◌then◌else◌, Option, Some, None}
-use Rattle.cjc_clinit.specs.Bytes.AccessFlags.{is_interface}
-use Rattle.cjc_narrow.specs.CapRead.declared.tree.Export.{Export}
-use Rattle.cjc_narrow.specs.CapRead.declared.tree.ExportedClass.{ExportedClass}
-use Rattle.cjc_narrow.specs.CardSemantics.Machine.Loaded.{MethodName, FieldName, ClassNames, CellName, Import, OfFile}
-use Rattle.cjc_narrow.specs.CardSemantics.Machine.Loaded.{Part}
-use Rattle.cjc_narrow.specs.CardSemantics.Machine.Loaded.{Loaded}
-use Rattle.cjc_vtable.specs.ClassFile.declared.tree.ClassTree.{ClassTree}
-use Rattle.cjc_vtable.specs.ClassFile.declared.tree.FieldTree.{FieldTree}
+use Rattle.cjc_list.specs.Bytes.AccessFlags.{is_interface}
+use Rattle.cjc_capwrite.specs.CapRead.declared.tree.Export.{Export}
+use Rattle.cjc_capwrite.specs.CapRead.declared.tree.ExportedClass.{ExportedClass}
+use Rattle.cjc_emit.specs.CardSemantics.Machine.Loaded.{MethodName, FieldName, ClassNames, CellName, Import, OfFile}
+use Rattle.cjc_emit.specs.CardSemantics.Machine.Loaded.{Part}
+use Rattle.cjc_emit.specs.CardSemantics.Machine.Loaded.{Loaded}
+use Rattle.cjc_clinit.specs.ClassFile.declared.tree.ClassTree.{ClassTree}
+use Rattle.cjc_clinit.specs.ClassFile.declared.tree.FieldTree.{FieldTree}
 use Rattle.cjc_clinit.specs.Fields.{is_cell}
 use Rattle.cjc_clinit.specs.Image.{field_id}
 use Rattle.cjc_components.specs.Class.{fields_of}
 use Rattle.cjc_components.specs.Descriptor.{method_in}
 use Rattle.cjc_components.specs.Statics.{cell_offset}
-use Rattle.cjc_vtable.specs.ExportFile.declared.tree.ExportTree.{ExportTree}
+use Rattle.cjc_check_rules.specs.ExportFile.declared.tree.ExportTree.{ExportTree}
 use Rattle.cjc_check_rules.specs.Complete.{Complete}
-use Rattle.cjc_vtable.specs.Tokens.Fields.{is_instance}
-use Rattle.cjc_vtable.specs.Tokens.Members.{Signature}
-use Rattle.cjc_vtable.specs.Tokens.Methods.{interface_methods}
-use Rattle.cjc_vtable.specs.Tokens.Tokens.{Assigned, assigned, token_of_member}
-use Rattle.cjc_vtable.specs.World.declared.image.StaticImage.{StaticImage}
-use Rattle.cjc_vtable.specs.World.Classes.{Member, Class, all_classes}
-use Rattle.cjc_vtable.specs.World.Files.{Files}
-use Rattle.cjc_vtable.specs.World.Lookup.{member_at}
-use Rattle.cjc_vtable.specs.World.Order.{class_order, written}
+use Rattle.cjc_vtable.specs.LowerTokens.Fields.{is_instance}
+use Rattle.cjc_vtable.specs.LowerTokens.Members.{Signature}
+use Rattle.cjc_vtable.specs.LowerTokens.Methods.{interface_methods}
+use Rattle.cjc_vtable.specs.LowerTokens.Tokens.{Assigned, assigned, token_of_member}
+use Rattle.cjc_clinit.specs.World.declared.image.StaticImage.{StaticImage}
+use Rattle.cjc_clinit.specs.World.Classes.{Member, Class, all_classes}
+use Rattle.cjc_clinit.specs.World.Files.{Files}
+use Rattle.cjc_clinit.specs.World.Lookup.{member_at}
+use Rattle.cjc_clinit.specs.World.Order.{class_order, written}
 
 -- ---- one class
 

@@ -2,20 +2,20 @@
 -- Specification 2.2.2, sections
 -- 6.8, 6.10 and 6.13). It is tested where components are consistent, and is the last of the sentences on components.
 use Rattle.std.specs.Prelude.{◌≡◌, ℕ, ◌+◌, List, [], ◌∷◌, ◌++◌, map, length, sum_by, Bool, ◌==◌, ◌&&◌}
-use Rattle.cjc_clinit.specs.Bytes.Breaks.{Break}
-use Rattle.cjc_narrow.specs.CapRead.declared.tree.ClassInfo.{ClassInfo}
-use Rattle.cjc_narrow.specs.CapRead.declared.tree.ClassDescriptor.{ClassDescriptor}
-use Rattle.cjc_narrow.specs.CapRead.declared.tree.Descriptor.{Descriptor}
-use Rattle.cjc_narrow.specs.CapRead.declared.tree.StaticField.{StaticField}
+use Rattle.cjc_list.specs.Bytes.Breaks.{Break}
+use Rattle.cjc_capwrite.specs.CapRead.declared.tree.ClassInfo.{ClassInfo}
+use Rattle.cjc_capwrite.specs.CapRead.declared.tree.ClassDescriptor.{ClassDescriptor}
+use Rattle.cjc_capwrite.specs.CapRead.declared.tree.Descriptor.{Descriptor}
+use Rattle.cjc_capwrite.specs.CapRead.declared.tree.StaticField.{StaticField}
 use Rattle.cjc_components.specs.Statics.{size_of_field}
 use Rattle.cjc_check_rules.specs.Complete.{Complete, described_size}
 use Rattle.cjc_check_rules.specs.Consistent.{break_at}
 use Rattle.cjc_check_rules.specs.declared.spot.ComponentPlace.{ComponentPlace}
 use Rattle.cjc_check_rules.specs.Spots.{in_info, unless, beside}
-use Rattle.cjc_vtable.specs.World.declared.image.StaticImage.{StaticImage}
-use Rattle.cjc_vtable.specs.World.Classes.{Class, all_classes}
-use Rattle.cjc_vtable.specs.World.Files.{Files}
-use Rattle.cjc_vtable.specs.World.Order.{class_order, methods_of_class}
+use Rattle.cjc_clinit.specs.World.declared.image.StaticImage.{StaticImage}
+use Rattle.cjc_clinit.specs.World.Classes.{Class, all_classes}
+use Rattle.cjc_clinit.specs.World.Files.{Files}
+use Rattle.cjc_clinit.specs.World.Order.{class_order, methods_of_class}
 
 -- how many class and interface infos there are
 abbrev pub info_count : ClassInfo → ℕ

@@ -3,18 +3,18 @@ use Rattle.std.proofs.Common.{◌≡◌, ◌∙◌, ℕ, ◌+◌, List, [], ◌�
 use Rattle.std.specs.Prelude.{Some}
 use Rattle.std.proofs.lemmas.List.{length-append}
 use Rattle.std.proofs.lemmas.List.Sums.{sum_by-cons}
-use Rattle.cjc_captree.specs.CapRead.declared.tree.CapTree.{CapTree}
-use Rattle.cjc_captree.specs.CapRead.declared.tree.Method.{Method}
-use Rattle.cjc_captree.specs.Components.Components.{components_of, method}
-use Rattle.cjc_captree.specs.Components.Methods.{first_method, handler_count, method_size, placed_at, placed_from}
-use Rattle.cjc_captree.specs.Components.Methods.{placed_methods}
-use Rattle.cjc_captree.specs.Components.Names.{names}
-use Rattle.cjc_captree.specs.Components.Package.{LaidMethod, Package}
-use Rattle.cjc_shape_proof.specs.Layout.Handlers.{table_order}
-use Rattle.cjc_shape_proof.specs.NCode.Lowering.Handlers.{handlers_of}
-use Rattle.cjc_shape_proof.specs.NCode.Lowering.Package.{all_handlers}
-use Rattle.cjc_shape_proof.specs.NCode.Lowering.Placed.{offset_of}
-use Rattle.cjc_shape_proof.specs.NCode.declared.narrow.NCatch.{NCatch}
+use Rattle.cjc_shape_proof.specs.CapRead.declared.tree.CapTree.{CapTree}
+use Rattle.cjc_shape_proof.specs.CapRead.declared.tree.Method.{Method}
+use Rattle.cjc_shape_proof.specs.Components.Components.{components_of, method}
+use Rattle.cjc_shape_proof.specs.Components.Methods.{first_method, handler_count, method_size, placed_at, placed_from}
+use Rattle.cjc_shape_proof.specs.Components.Methods.{placed_methods}
+use Rattle.cjc_shape_proof.specs.Components.Names.{names}
+use Rattle.cjc_shape_proof.specs.Components.Package.{LaidMethod, Package}
+use Rattle.cjc_captree.specs.Layout.Handlers.{table_order}
+use Rattle.cjc_captree.specs.NCode.Lowering.Handlers.{handlers_of}
+use Rattle.cjc_captree.specs.NCode.Lowering.Package.{all_handlers}
+use Rattle.cjc_captree.specs.NCode.Lowering.Placed.{offset_of}
+use Rattle.cjc_captree.specs.NCode.declared.narrow.NCatch.{NCatch}
 
 module _ (p : Package) where
   of_method : (to : ℕ → ℕ) (cs : List NCatch) → length (handlers_of (names p) to cs) ≡ length cs

@@ -3,11 +3,11 @@ use Rattle.std.proofs.Common.{◌≡◌, ◌<◌, ◌≤◌, ◌^◌, ℕ, All, 
 use Rattle.std.proofs.lemmas.List.Elements.{All-get_or}
 use Rattle.std.proofs.lemmas.Option.{get_or_from_slice_get, slice_get_within}
 use Rattle.std.specs.List.{AllByRecursion}
-use Rattle.cjc_shape_proof.specs.Judge.Judged.{IsJudged}
-use Rattle.cjc_shape_proof.specs.Judge.Spelt.{IsRead}
-use Rattle.cjc_shape_proof.specs.Judge.declared.judged.Judged.{Judged}
-use Rattle.cjc_shape_proof.specs.List.Listed.{ListTree}
-use Rattle.cjc_shape_proof.specs.Shape.Prepared.{BreaksNothing, IsSound, tested}
+use Rattle.cjc_shape_proof.specs.LowerJudge.Judged.{IsJudged}
+use Rattle.cjc_shape_proof.specs.LowerJudge.Spelt.{IsRead}
+use Rattle.cjc_shape_proof.specs.LowerJudge.declared.judged.Judged.{Judged}
+use Rattle.cjc_captree.specs.List.Listed.{ListTree}
+use Rattle.cjc_shape_proof.specs.LowerShape.Prepared.{BreaksNothing, IsSound, tested}
 
 each_short : (files : List (List ℕ)) → All (λ bytes. length bytes ≤ 2 ^ 29) files → (k : ℕ) (bytes : List ℕ)
     → slice_get files k ≡ Some bytes → length bytes ≤ 2 ^ 29

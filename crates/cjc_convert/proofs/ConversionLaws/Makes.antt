@@ -1,25 +1,25 @@
 -- What is written for a package that breaks no rule, and which rule stops it.
 use Rattle.std.proofs.Common.{◌≡◌, ◌∙◌, [], None, Option, Some, ap, inl, inr, subst, sym, ◌⊎◌, ℕ, List}
-use Rattle.cjc_shape_proof.specs.Bytes.Breaks.{IsFirstRefusal}
-use Rattle.cjc_shape_proof.specs.Bytes.Format.{FileSpells}
-use Rattle.cjc_shape_proof.specs.Bytes.Refused.{refusal}
-use Rattle.cjc_shape_proof.specs.Bytes.declared.fault.Fault.{Fault}
-use Rattle.cjc_shape_proof.specs.Bytes.declared.fault.Fault.TheVariants as faults
-use Rattle.cjc_shape_proof.specs.CapWrite.Files.{files_of}
-use Rattle.cjc_shape_proof.specs.CapWrite.Writable.{IsSpelt}
-use Rattle.cjc_captree.specs.Components.Components.{components_of}
-use Rattle.cjc_captree.specs.Components.Limits.{size_breaks}
+use Rattle.cjc_captree.specs.Bytes.Breaks.{IsFirstRefusal}
+use Rattle.cjc_captree.specs.Bytes.Format.{FileSpells}
+use Rattle.cjc_captree.specs.Bytes.Refused.{refusal}
+use Rattle.cjc_captree.specs.Bytes.declared.fault.Fault.{Fault}
+use Rattle.cjc_captree.specs.Bytes.declared.fault.Fault.TheVariants as faults
+use Rattle.cjc_captree.specs.CapWrite.Files.{files_of}
+use Rattle.cjc_captree.specs.CapWrite.Writable.{IsSpelt}
+use Rattle.cjc_shape_proof.specs.Components.Components.{components_of}
+use Rattle.cjc_shape_proof.specs.Components.Limits.{size_breaks}
 use Rattle.cjc_convert.proofs.ConversionLaws.Shapes.{its_draft}
 use Rattle.cjc_convert.proofs.ConversionLaws.Stops.{keeps_limits, stopped_by_sizes}
 use Rattle.cjc_convert.specs.Conversion.{IsConverted}
 use Rattle.cjc_convert.specs.declared.conversion.Converted.{Converted}
-use Rattle.cjc_shape_proof.specs.ExportFile.ExportFile.{export_file}
-use Rattle.cjc_shape_proof.specs.ExportFile.Written.{written}
-use Rattle.cjc_shape_proof.specs.ExportFile.declared.tree.ExportTree.{ExportTree}
-use Rattle.cjc_shape_proof.specs.Judge.declared.judged.Judged.{Judged}
-use Rattle.cjc_shape_proof.specs.Shape.Prepared.{BreaksNothing}
-use Rattle.cjc_shape_proof.specs.Shape.Whole.Working.Shaped.{IsShaped, Stopped, package_of}
-use Rattle.cjc_shape_proof.specs.Shape.declared.whole.shaping.Shaped.{Shaped}
+use Rattle.cjc_captree.specs.ExportFile.ExportFile.{export_file}
+use Rattle.cjc_captree.specs.ExportFile.Written.{written}
+use Rattle.cjc_captree.specs.ExportFile.declared.tree.ExportTree.{ExportTree}
+use Rattle.cjc_shape_proof.specs.LowerJudge.declared.judged.Judged.{Judged}
+use Rattle.cjc_shape_proof.specs.LowerShape.Prepared.{BreaksNothing}
+use Rattle.cjc_shape_proof.specs.LowerShape.Whole.Working.Shaped.{IsShaped, Stopped, package_of}
+use Rattle.cjc_shape_proof.specs.LowerShape.declared.whole.shaping.Shaped.{Shaped}
 
 module _ (j : Judged) (s : Shaped) (is : BreaksNothing j) (h : IsShaped j s) where
   pub by_sizes : (e : Fault) → IsFirstRefusal (size_breaks (package_of j s)) e → Stopped j.list.now j.files.now e

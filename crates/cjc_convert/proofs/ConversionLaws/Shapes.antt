@@ -1,18 +1,18 @@
 -- A package that is laid out, by what the code has of it.
 use Rattle.std.proofs.Common.{◌≡◌, List, sym, subst}
-use Rattle.cjc_captree.specs.Components.Package.{codes, tokens}
-use Rattle.cjc_shape_proof.specs.Judge.Spelt.{IsRead}
-use Rattle.cjc_shape_proof.specs.Judge.declared.judged.Judged.{Judged}
+use Rattle.cjc_shape_proof.specs.Components.Package.{codes, tokens}
+use Rattle.cjc_shape_proof.specs.LowerJudge.Spelt.{IsRead}
+use Rattle.cjc_shape_proof.specs.LowerJudge.declared.judged.Judged.{Judged}
 use Rattle.cjc_captree.proofs.MethodsKept.{codes_of}
-use Rattle.cjc_shape_proof.specs.NCode.declared.narrow.NMethod.{NMethod}
-use Rattle.cjc_captree.specs.Pool.Pool.{IsPool, PoolView}
+use Rattle.cjc_captree.specs.NCode.declared.narrow.NMethod.{NMethod}
+use Rattle.cjc_shape_proof.specs.Pool.Pool.{IsPool, PoolView}
 use Rattle.cjc_shape_proof.proofs.ShapeSecond.{package_is_draft}
-use Rattle.cjc_shape_proof.specs.Shape.Prepared.{BreaksNothing}
-use Rattle.cjc_shape_proof.specs.Shape.Whole.Conversion.{IsDraft}
-use Rattle.cjc_shape_proof.specs.Shape.Whole.Working.Shaped.{IsShaped, package_of}
-use Rattle.cjc_shape_proof.specs.Shape.declared.whole.shaping.Shaped.{Shaped}
+use Rattle.cjc_shape_proof.specs.LowerShape.Prepared.{BreaksNothing}
+use Rattle.cjc_shape_proof.specs.LowerShape.Whole.Conversion.{IsDraft}
+use Rattle.cjc_shape_proof.specs.LowerShape.Whole.Working.Shaped.{IsShaped, package_of}
+use Rattle.cjc_shape_proof.specs.LowerShape.declared.whole.shaping.Shaped.{Shaped}
 use Rattle.cjc_shape_proof.specs.Written.LaidOut.{AidsAreShort, IsLaidOut}
-use Rattle.cjc_shape_proof.specs.Tokens.Tokens.{Assigned}
+use Rattle.cjc_captree.specs.Tokens.Tokens.{Assigned}
 
 module _ (j : Judged) (s : Shaped) (h : IsShaped j s) where
   pub its_draft : IsDraft j.list.now j.files.now (package_of j s)

@@ -1,20 +1,20 @@
 -- Which rule is answered for a list and its files.
 use Rattle.std.proofs.Common.{◌≡◌, ◌∙◌, ℕ, List, [], refl, sym, ap, subst, inl, inr}
-use Rattle.cjc_shape_proof.specs.Bytes.Breaks.{Among, Break, IsFirst, IsFirstRefusal}
-use Rattle.cjc_shape_proof.specs.Bytes.Order.{NotAfter}
-use Rattle.cjc_shape_proof.specs.Bytes.declared.fault.Fault.{Fault}
-use Rattle.cjc_shape_proof.specs.Bytes.declared.fault.Refusal.{Refusal}
-use Rattle.cjc_captree.specs.Components.Limits.{code_breaks, else_of, limit_breaks, of_methods, size_breaks}
-use Rattle.cjc_captree.specs.Components.Limits.{word_breaks}
-use Rattle.cjc_captree.specs.Components.Package.{Package}
-use Rattle.cjc_shape_proof.specs.Judge.Judged.{IsStopped}
-use Rattle.cjc_shape_proof.specs.Judge.Rules.{Breach, IsFirstBroken, IsFirstOf, OnLevels, on_first, on_second}
-use Rattle.cjc_shape_proof.specs.Judge.declared.judged.Judged.{Judged}
-use Rattle.cjc_shape_proof.specs.List.Listed.{ListTree}
-use Rattle.cjc_shape_proof.specs.Shape.Prepared.{IsSound, tested}
-use Rattle.cjc_shape_proof.specs.Shape.Whole.Conversion.{BreaksWritten, IsDraft, IsPackageOf, IsRefused, of_form}
-use Rattle.cjc_shape_proof.specs.Shape.Whole.Conversion.{of_size}
-use Rattle.cjc_shape_proof.specs.Shape.Whole.Working.Shaped.{Stopped}
+use Rattle.cjc_captree.specs.Bytes.Breaks.{Among, Break, IsFirst, IsFirstRefusal}
+use Rattle.cjc_captree.specs.Bytes.Order.{NotAfter}
+use Rattle.cjc_captree.specs.Bytes.declared.fault.Fault.{Fault}
+use Rattle.cjc_captree.specs.Bytes.declared.fault.Refusal.{Refusal}
+use Rattle.cjc_shape_proof.specs.Components.Limits.{code_breaks, else_of, limit_breaks, of_methods, size_breaks}
+use Rattle.cjc_shape_proof.specs.Components.Limits.{word_breaks}
+use Rattle.cjc_shape_proof.specs.Components.Package.{Package}
+use Rattle.cjc_shape_proof.specs.LowerJudge.Judged.{IsStopped}
+use Rattle.cjc_shape_proof.specs.LowerJudge.Rules.{Breach, IsFirstBroken, IsFirstOf, OnLevels, on_first, on_second}
+use Rattle.cjc_shape_proof.specs.LowerJudge.declared.judged.Judged.{Judged}
+use Rattle.cjc_captree.specs.List.Listed.{ListTree}
+use Rattle.cjc_shape_proof.specs.LowerShape.Prepared.{IsSound, tested}
+use Rattle.cjc_shape_proof.specs.LowerShape.Whole.Conversion.{BreaksWritten, IsDraft, IsPackageOf, IsRefused, of_form}
+use Rattle.cjc_shape_proof.specs.LowerShape.Whole.Conversion.{of_size}
+use Rattle.cjc_shape_proof.specs.LowerShape.Whole.Working.Shaped.{Stopped}
 use Rattle.cjc_shape_proof.proofs.ShapeDrafts.{narrow_codes}
 use Rattle.cjc_shape_proof.proofs.ShapeOne.{one_package}
 use Rattle.cjc_shape_proof.proofs.ShapeSecond.{both_none, coded_are, fs, is_base, package_is_draft}

@@ -4,7 +4,7 @@ use Rattle.std.proofs.Common.{List, [], ◌∷◌, pos, negsuc}
 use Rattle.std.specs.Prelude.{nat_le, if◌then◌else◌}
 use Rattle.std.proofs.lemmas.Bool.{cases_lt}
 use Rattle.std.proofs.lemmas.Bool.Decides.{nat_tests}
-use Rattle.cjc_ncode.specs.CapRead.Decode.{IsWithin, positive, negative}
+use Rattle.cjc_layout.specs.CapRead.Decode.{IsWithin, positive, negative}
 use Rattle.cjc_ncode.specs.declared.narrow.NInsn.{NInsn}
 use Rattle.cjc_ncode.specs.Lowering.Laid.{distance}
 use Rattle.cjc_layout.specs.Legal.{is_near}

@@ -4,11 +4,11 @@ use Rattle.std.proofs.Common.{List, [], ◌∷◌, Option, Some, None}
 use Rattle.std.specs.Prelude.{◌&&◌, if◌then◌else◌}
 use Rattle.std.proofs.lemmas.Bool.{cases_lt}
 use Rattle.std.proofs.lemmas.Option.{slice_get_past}
-use Rattle.cjc_ncode.specs.CapRead.Opcodes.{Form, Fields, Table, Lookup, Operand, Byte, Signed1, Signed2, Signed4}
-use Rattle.cjc_ncode.specs.CapRead.Opcodes.{Index1}
-use Rattle.cjc_ncode.specs.CapRead.Opcodes.{Index2, form, forms}
-use Rattle.cjc_ncode.specs.CardSemantics.Bytecode.Meanings.{Meaning, Branches, Ranged, Paired, meanings, meaning}
-use Rattle.cjc_ncode.specs.CardSemantics.Bytecode.Meanings.{known_meaning}
+use Rattle.cjc_layout.specs.CapRead.Opcodes.{Form, Fields, Table, Lookup, Operand, Byte, Signed1, Signed2, Signed4}
+use Rattle.cjc_layout.specs.CapRead.Opcodes.{Index1}
+use Rattle.cjc_layout.specs.CapRead.Opcodes.{Index2, form, forms}
+use Rattle.cjc_layout.specs.CardSemantics.Bytecode.Meanings.{Meaning, Branches, Ranged, Paired, meanings, meaning}
+use Rattle.cjc_layout.specs.CardSemantics.Bytecode.Meanings.{known_meaning}
 use Rattle.cjc_ncode.specs.Lowering.Laid.{wide_jump}
 use Rattle.cjc_ncode.proofs.BytesBools.{and_true}
 

@@ -2,10 +2,10 @@
 use Rattle.std.proofs.Common.{◌≡◌, ℕ, zero, suc, ◌+◌, ◌≤◌, refl, sym, ap, subst, ◌∙◌, arith, Bool, true, false, List}
 use Rattle.std.proofs.Common.{[], ◌∷◌, ℤ, Some}
 use Rattle.std.specs.Prelude.{slice_get, replicate, ◌&&◌, int_lt}
-use Rattle.cjc_ncode.specs.CapRead.Opcodes.{Fields, Table, Lookup, Operand, Signed1, Signed2, form}
-use Rattle.cjc_ncode.specs.CapRead.Decode.{Instruction, AllFit, none, more, IsWithin, IsWritable, before_table, pairs}
-use Rattle.cjc_ncode.specs.CapRead.Decode.{matches_ascend}
-use Rattle.cjc_ncode.specs.CardSemantics.Bytecode.Meanings.{Ranged, Paired, meaning}
+use Rattle.cjc_layout.specs.CapRead.Opcodes.{Fields, Table, Lookup, Operand, Signed1, Signed2, form}
+use Rattle.cjc_layout.specs.CapRead.Decode.{Instruction, AllFit, none, more, IsWithin, IsWritable, before_table, pairs}
+use Rattle.cjc_layout.specs.CapRead.Decode.{matches_ascend}
+use Rattle.cjc_layout.specs.CardSemantics.Bytecode.Meanings.{Ranged, Paired, meaning}
 use Rattle.cjc_ncode.specs.declared.narrow.NCase.{NCase}
 use Rattle.cjc_ncode.specs.declared.narrow.NInsn.{NInsn}
 use Rattle.cjc_ncode.specs.declared.narrow.NInsn.TheVariants as insns

@@ -1,5 +1,5 @@
 use Rattle.std.proofs.Common.{refl}
-use Rattle.cjc_ncode.specs.CapRead.Opcodes.{form, forms, op_info}
+use Rattle.cjc_layout.specs.CapRead.Opcodes.{form, forms, op_info}
 use Rattle.cjc_emit.proofs.worked_methods_are_emitted.Goals as goal
 
 pub returns-clause-bytes : goal.returns-clause-bytes

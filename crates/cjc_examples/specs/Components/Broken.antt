@@ -1,13 +1,13 @@
 -- Components of a package that `check` refuses, run by token: each method of p/T but the first three meets what is not
 -- there.
 use Rattle.std.specs.Prelude.{ℕ, List, [], ◌∷◌, map, codes}
-use Rattle.cjc_components.specs.CapRead.declared.tree.ClassRef.TheVariants.{Inside, Outside}
-use Rattle.cjc_components.specs.CapRead.declared.tree.StaticRef.TheVariants as refs
-use Rattle.cjc_components.specs.CapRead.declared.tree.PoolEntry.TheVariants.{Classref, InstanceFieldref}
-use Rattle.cjc_components.specs.CapRead.declared.tree.PoolEntry.TheVariants.{StaticFieldref, StaticMethodref}
-use Rattle.cjc_components.specs.CapRead.declared.tree.PoolEntry.TheVariants.{VirtualMethodref}
-use Rattle.cjc_components.specs.Script.declared.report.Outcome.{Outcome}
-use Rattle.cjc_components.specs.Script.declared.report.Outcome.TheVariants.{Stuck}
+use Rattle.cjc_capwrite.specs.CapRead.declared.tree.ClassRef.TheVariants.{Inside, Outside}
+use Rattle.cjc_capwrite.specs.CapRead.declared.tree.StaticRef.TheVariants as refs
+use Rattle.cjc_capwrite.specs.CapRead.declared.tree.PoolEntry.TheVariants.{Classref, InstanceFieldref}
+use Rattle.cjc_capwrite.specs.CapRead.declared.tree.PoolEntry.TheVariants.{StaticFieldref, StaticMethodref}
+use Rattle.cjc_capwrite.specs.CapRead.declared.tree.PoolEntry.TheVariants.{VirtualMethodref}
+use Rattle.cjc_card_semantics.specs.Script.declared.report.Outcome.{Outcome}
+use Rattle.cjc_card_semantics.specs.Script.declared.report.Outcome.TheVariants.{Stuck}
 use Rattle.cjc_card_semantics.specs.Machine.Worked.{method_at, described, class_with, named, names, alone}
 use Rattle.cjc_card_semantics.specs.Machine.Worked.{script, call}
 use Rattle.cjc_card_semantics.specs.Machine.Loaded.{OfFile, Part}

@@ -3,24 +3,24 @@ use Rattle.std.specs.Prelude.{ℕ, ◌+◌, List, [], ◌∷◌, ◌++◌, map, 
 use Rattle.cjc_bytes.specs.declared.fault.MemberId.{MemberId}
 use Rattle.cjc_bytes.specs.declared.settings.AppletLine.{AppletLine}
 use Rattle.cjc_bytes.specs.declared.settings.FileLine.{FileLine}
-use Rattle.cjc_tokens.specs.ClassFile.declared.tree.ClassTree.{ClassTree}
-use Rattle.cjc_tokens.specs.ExportFile.declared.tree.ExportField.{ExportField}
-use Rattle.cjc_tokens.specs.ExportFile.declared.tree.ExportMethod.{ExportMethod}
-use Rattle.cjc_tokens.specs.ExportFile.declared.tree.ExportClass.{ExportClass}
-use Rattle.cjc_tokens.specs.ExportFile.declared.tree.ExportTree.{ExportTree}
-use Rattle.cjc_components.specs.List.Listed.{ListTree}
+use Rattle.cjc_code.specs.ClassFile.declared.tree.ClassTree.{ClassTree}
+use Rattle.cjc_world.specs.ExportFile.declared.tree.ExportField.{ExportField}
+use Rattle.cjc_world.specs.ExportFile.declared.tree.ExportMethod.{ExportMethod}
+use Rattle.cjc_world.specs.ExportFile.declared.tree.ExportClass.{ExportClass}
+use Rattle.cjc_world.specs.ExportFile.declared.tree.ExportTree.{ExportTree}
+use Rattle.cjc_components.specs.LowerList.Listed.{ListTree}
 use Rattle.cjc_world.specs.declared.found.Found.{Found}
 use Rattle.cjc_world.specs.declared.image.StaticImage.{StaticImage}
 use Rattle.cjc_world.specs.Files.{Files}
 use Rattle.cjc_world.specs.Classes.{all_classes}
 use Rattle.cjc_world.specs.Order.{method_order}
-use Rattle.cjc_components.specs.JvmSemantics.Worked.{method, virtual, abstract, class, field}
-use Rattle.cjc_components.specs.JvmSemantics.Wallet.{wallet_class}
-use Rattle.cjc_components.specs.JvmSemantics.Wallet
+use Rattle.cjc_components.specs.LowerJvmSemantics.Worked.{method, virtual, abstract, class, field}
+use Rattle.cjc_components.specs.LowerJvmSemantics.Wallet.{wallet_class}
+use Rattle.cjc_components.specs.LowerJvmSemantics.Wallet
 use Rattle.cjc_card_semantics.specs.Machine.Worked.{object, exported, tree}
-use Rattle.cjc_components.specs.NCode.declared.narrow.NMethod.{NMethod}
-use Rattle.cjc_components.specs.NCode.PoolOrder.{pool_order}
-use Rattle.cjc_components.specs.Narrow.Rows.Selected.{near_fields}
+use Rattle.cjc_components.specs.LowerNCode.declared.narrow.NMethod.{NMethod}
+use Rattle.cjc_components.specs.LowerNCode.PoolOrder.{pool_order}
+use Rattle.cjc_components.specs.LowerNarrow.Rows.Selected.{near_fields}
 use Rattle.cjc_examples.specs.Narrow.Both.{q, all_reached}
 use Rattle.cjc_examples.specs.Narrow.Calculating.{catches}
 use Rattle.cjc_examples.specs.Narrow.Overriding.{class_b}

@@ -1,11 +1,11 @@
 -- The methods that abstract classes get of their interfaces. Classes of the package: p/I, p/J, p/L, p/A, p/B, p/C and
 -- p/D, at 0 to 6; q/K is an imported interface.
 use Rattle.std.specs.Prelude.{ℕ, List, [], ◌∷◌, map, Option, Some, None, pos, codes}
-use Rattle.cjc_tokens.specs.ClassFile.declared.tree.ClassTree.{ClassTree}
-use Rattle.cjc_tokens.specs.ExportFile.declared.tree.ExportTree.{ExportTree}
+use Rattle.cjc_code.specs.ClassFile.declared.tree.ClassTree.{ClassTree}
+use Rattle.cjc_world.specs.ExportFile.declared.tree.ExportTree.{ExportTree}
 use Rattle.cjc_world.specs.Files.{Files}
 use Rattle.cjc_world.specs.Added.{added_at}
-use Rattle.cjc_components.specs.JvmSemantics.Worked.{class, field}
+use Rattle.cjc_components.specs.LowerJvmSemantics.Worked.{class, field}
 use Rattle.cjc_card_semantics.specs.Machine.Worked.{object, exported_method, tree}
 use Rattle.cjc_examples.specs.Components.Packages.{files_of}
 use Rattle.cjc_examples.specs.Hierarchy.Drafts.{bodiless, imported, lang}

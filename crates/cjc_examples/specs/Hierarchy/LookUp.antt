@@ -2,13 +2,13 @@
 -- p/A and p/B, at 0 to 4. Imported ones: java/lang/Object, q/I, q/J, q/Base, q/Deep and q/Odd, at 0 to 5.
 use Rattle.std.specs.Prelude.{ℕ, List, [], ◌∷◌, map, Bool, true, false, Option, Some, None, pos, codes}
 use Rattle.cjc_bytes.specs.declared.fault.MemberId.{MemberId}
-use Rattle.cjc_tokens.specs.ClassFile.declared.tree.ClassTree.{ClassTree}
-use Rattle.cjc_tokens.specs.ExportFile.declared.tree.ExportTree.{ExportTree}
+use Rattle.cjc_code.specs.ClassFile.declared.tree.ClassTree.{ClassTree}
+use Rattle.cjc_world.specs.ExportFile.declared.tree.ExportTree.{ExportTree}
 use Rattle.cjc_world.specs.declared.found.Found.{Found}
 use Rattle.cjc_world.specs.Classes.{Class, all_classes}
 use Rattle.cjc_world.specs.Lookup.{find_field, find_method, selected}
 use Rattle.cjc_world.specs.Subtype.{is_subtype}
-use Rattle.cjc_components.specs.JvmSemantics.Worked.{class, field}
+use Rattle.cjc_components.specs.LowerJvmSemantics.Worked.{class, field}
 use Rattle.cjc_card_semantics.specs.Machine.Worked.{id, object, exported_method, tree}
 use Rattle.cjc_examples.specs.Components.Packages.{files_of}
 use Rattle.cjc_examples.specs.Hierarchy.Drafts.{bodiless, listed_constant, imported, lang, declared, listed}

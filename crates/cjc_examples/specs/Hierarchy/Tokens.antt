@@ -1,10 +1,10 @@
 -- Tokens of fields, an int among them, which takes two, and of package-visible methods beside one of an imported class.
 use Rattle.std.specs.Prelude.{ℕ, List, [], ◌∷◌, map, flat_map, Option, Some, None, false, pos, codes}
-use Rattle.cjc_tokens.specs.ClassFile.declared.tree.ClassTree.{ClassTree}
-use Rattle.cjc_tokens.specs.ExportFile.declared.tree.ExportTree.{ExportTree}
+use Rattle.cjc_code.specs.ClassFile.declared.tree.ClassTree.{ClassTree}
+use Rattle.cjc_world.specs.ExportFile.declared.tree.ExportTree.{ExportTree}
 use Rattle.cjc_world.specs.declared.found.Found.{Found}
 use Rattle.cjc_tokens.specs.Tokens.{Assigned, assigned, field_of_token, public_methods_of, package_methods_of}
-use Rattle.cjc_components.specs.JvmSemantics.Worked.{class, field}
+use Rattle.cjc_components.specs.LowerJvmSemantics.Worked.{class, field}
 use Rattle.cjc_card_semantics.specs.Machine.Worked.{object, exported_method, tree}
 use Rattle.cjc_examples.specs.Components.Packages.{files_of}
 use Rattle.cjc_examples.specs.Hierarchy.Drafts.{bodiless, imported, lang}

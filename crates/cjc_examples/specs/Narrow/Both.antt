@@ -1,24 +1,24 @@
 -- How packages are made by hand as class files and as components over the same export files, and run by all three
 -- machines.
 use Rattle.std.specs.Prelude.{ℕ, List, [], ◌∷◌, length, map, replicate, Option, Some, true, false, codes}
-use Rattle.cjc_tokens.specs.ClassFile.declared.tree.ClassTree.{ClassTree}
-use Rattle.cjc_tokens.specs.ExportFile.declared.tree.ExportTree.{ExportTree}
-use Rattle.cjc_components.specs.Script.declared.script.Answer.{Answer}
-use Rattle.cjc_components.specs.Script.declared.script.Entry.{Entry}
-use Rattle.cjc_components.specs.Script.declared.script.Act.{Act}
-use Rattle.cjc_components.specs.Script.declared.script.Reply.{Reply}
-use Rattle.cjc_components.specs.Script.declared.script.Script.{Script}
-use Rattle.cjc_components.specs.Script.declared.report.Report.{Report}
+use Rattle.cjc_code.specs.ClassFile.declared.tree.ClassTree.{ClassTree}
+use Rattle.cjc_world.specs.ExportFile.declared.tree.ExportTree.{ExportTree}
+use Rattle.cjc_card_semantics.specs.Script.declared.script.Answer.{Answer}
+use Rattle.cjc_card_semantics.specs.Script.declared.script.Entry.{Entry}
+use Rattle.cjc_card_semantics.specs.Script.declared.script.Act.{Act}
+use Rattle.cjc_card_semantics.specs.Script.declared.script.Reply.{Reply}
+use Rattle.cjc_card_semantics.specs.Script.declared.script.Script.{Script}
+use Rattle.cjc_card_semantics.specs.Script.declared.report.Report.{Report}
 use Rattle.cjc_world.specs.declared.image.StaticImage.{StaticImage}
 use Rattle.cjc_world.specs.Files.{Files}
-use Rattle.cjc_components.specs.JvmSemantics.Linked.{Method}
-use Rattle.cjc_components.specs.JvmSemantics.ByName
+use Rattle.cjc_components.specs.LowerJvmSemantics.Linked.{Method}
+use Rattle.cjc_components.specs.LowerJvmSemantics.ByName
 use Rattle.cjc_card_semantics.specs.Machine.Loaded.{Part, Loaded}
 use Rattle.cjc_card_semantics.specs.Machine.Worked.{object, lang, tree, exported, exported_method}
 use Rattle.cjc_card_semantics.specs.Machine.ByToken
-use Rattle.cjc_components.specs.NCode.declared.narrow.NMethod.{NMethod}
-use Rattle.cjc_components.specs.Narrow.Rows.Package.{code_of}
-use Rattle.cjc_components.specs.Narrow.Rows.Package
+use Rattle.cjc_components.specs.LowerNCode.declared.narrow.NMethod.{NMethod}
+use Rattle.cjc_components.specs.LowerNarrow.Rows.Package.{code_of}
+use Rattle.cjc_components.specs.LowerNarrow.Rows.Package
 
 -- q has class q/A with a constructor, a static z, and virtual a and b
 abbrev pub q : ExportTree

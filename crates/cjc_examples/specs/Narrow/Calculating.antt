@@ -1,15 +1,15 @@
 -- A package made by hand as class files and as components: p/T has static methods that calculate, choose, catch and
 -- call.
 use Rattle.std.specs.Prelude.{List, [], ◌∷◌, ◌++◌, Some, None, true, false, pos, codes}
-use Rattle.cjc_tokens.specs.ClassFile.declared.tree.Catch.{Catch}
-use Rattle.cjc_tokens.specs.ClassFile.declared.tree.ClassTree.{ClassTree}
-use Rattle.cjc_tokens.specs.ClassFile.declared.tree.MethodTree.{MethodTree}
-use Rattle.cjc_tokens.specs.ClassFile.PoolItem as items
-use Rattle.cjc_components.specs.CapRead.declared.tree.ClassRef.TheVariants.{Outside}
-use Rattle.cjc_components.specs.CapRead.declared.tree.StaticRef.TheVariants as refs
-use Rattle.cjc_components.specs.CapRead.declared.tree.PoolEntry.TheVariants.{Classref, StaticMethodref}
+use Rattle.cjc_code.specs.ClassFile.declared.tree.Catch.{Catch}
+use Rattle.cjc_code.specs.ClassFile.declared.tree.ClassTree.{ClassTree}
+use Rattle.cjc_code.specs.ClassFile.declared.tree.MethodTree.{MethodTree}
+use Rattle.cjc_code.specs.ClassFile.PoolItem as items
+use Rattle.cjc_capwrite.specs.CapRead.declared.tree.ClassRef.TheVariants.{Outside}
+use Rattle.cjc_capwrite.specs.CapRead.declared.tree.StaticRef.TheVariants as refs
+use Rattle.cjc_capwrite.specs.CapRead.declared.tree.PoolEntry.TheVariants.{Classref, StaticMethodref}
 use Rattle.cjc_world.specs.Files.{Files}
-use Rattle.cjc_components.specs.JvmSemantics.Worked.{method, class}
+use Rattle.cjc_components.specs.LowerJvmSemantics.Worked.{method, class}
 use Rattle.cjc_card_semantics.specs.Machine.Worked.{id, method_at, described, class_with, handler_at, no_statics, named}
 use Rattle.cjc_card_semantics.specs.Machine.Worked.{names, object}
 use Rattle.cjc_card_semantics.specs.Machine.Loaded.{OfFile, Part, Loaded}

@@ -1,20 +1,20 @@
 -- What is written for the class files of a package, laid out in bytes one method behind the other, with the indices of
 -- its own pool.
 use Rattle.std.specs.Prelude.{ℕ, ◌+◌, List, [], ◌∷◌, length, map, flat_map, position, unwrap_or, false}
-use Rattle.cjc_tokens.specs.ClassFile.declared.tree.ClassTree.{ClassTree}
-use Rattle.cjc_components.specs.CapRead.declared.tree.ClassRef.TheVariants.{Inside}
-use Rattle.cjc_components.specs.CapRead.declared.tree.StaticRef.TheVariants as refs
+use Rattle.cjc_code.specs.ClassFile.declared.tree.ClassTree.{ClassTree}
+use Rattle.cjc_capwrite.specs.CapRead.declared.tree.ClassRef.TheVariants.{Inside}
+use Rattle.cjc_capwrite.specs.CapRead.declared.tree.StaticRef.TheVariants as refs
 use Rattle.cjc_world.specs.Files.{Files}
-use Rattle.cjc_components.specs.JvmSemantics.OnePackage.{method_by}
+use Rattle.cjc_components.specs.LowerJvmSemantics.OnePackage.{method_by}
 use Rattle.cjc_card_semantics.specs.Machine.Loaded.{Loaded}
 use Rattle.cjc_card_semantics.specs.Machine.Classes.{Own}
 use Rattle.cjc_card_semantics.specs.Machine.Dispatch.{Open}
 use Rattle.cjc_card_semantics.specs.Machine.Operations.{Outer}
-use Rattle.cjc_components.specs.NCode.declared.narrow.NMethod.{NMethod}
-use Rattle.cjc_components.specs.NCode.declared.narrow.PoolKey.{PoolKey}
-use Rattle.cjc_components.specs.NCode.PoolOrder.{pool_order, same_key}
-use Rattle.cjc_components.specs.NCode.Lowering.Naming.{Naming}
-use Rattle.cjc_components.specs.NCode.Lowering.Placed.{Placed, method_bytes, short_header}
+use Rattle.cjc_components.specs.LowerNCode.declared.narrow.NMethod.{NMethod}
+use Rattle.cjc_components.specs.LowerNCode.declared.narrow.PoolKey.{PoolKey}
+use Rattle.cjc_components.specs.LowerNCode.PoolOrder.{pool_order, same_key}
+use Rattle.cjc_components.specs.LowerNCode.Lowering.Naming.{Naming}
+use Rattle.cjc_components.specs.LowerNCode.Lowering.Placed.{Placed, method_bytes, short_header}
 use Rattle.cjc_examples.specs.Narrow.Both.{narrow}
 
 -- the narrow code of a class, and of all classes

@@ -1,13 +1,13 @@
 -- A package made by hand as class files and as components: p/B extends the imported q/A, overrides a and inherits b.
 use Rattle.std.specs.Prelude.{[], ◌∷◌, ◌++◌, codes}
-use Rattle.cjc_tokens.specs.ClassFile.declared.tree.ClassTree.{ClassTree}
-use Rattle.cjc_tokens.specs.ClassFile.PoolItem as items
-use Rattle.cjc_components.specs.CapRead.declared.tree.ClassRef.TheVariants.{Inside, Outside}
-use Rattle.cjc_components.specs.CapRead.declared.tree.StaticRef.TheVariants as refs
-use Rattle.cjc_components.specs.CapRead.declared.tree.PoolEntry.TheVariants.{Classref, VirtualMethodref}
-use Rattle.cjc_components.specs.CapRead.declared.tree.PoolEntry.TheVariants.{StaticMethodref}
+use Rattle.cjc_code.specs.ClassFile.declared.tree.ClassTree.{ClassTree}
+use Rattle.cjc_code.specs.ClassFile.PoolItem as items
+use Rattle.cjc_capwrite.specs.CapRead.declared.tree.ClassRef.TheVariants.{Inside, Outside}
+use Rattle.cjc_capwrite.specs.CapRead.declared.tree.StaticRef.TheVariants as refs
+use Rattle.cjc_capwrite.specs.CapRead.declared.tree.PoolEntry.TheVariants.{Classref, VirtualMethodref}
+use Rattle.cjc_capwrite.specs.CapRead.declared.tree.PoolEntry.TheVariants.{StaticMethodref}
 use Rattle.cjc_world.specs.Files.{Files}
-use Rattle.cjc_components.specs.JvmSemantics.Worked.{method, virtual, class}
+use Rattle.cjc_components.specs.LowerJvmSemantics.Worked.{method, virtual, class}
 use Rattle.cjc_card_semantics.specs.Machine.Worked.{id, method_at, described, class_with, no_statics, named, names}
 use Rattle.cjc_card_semantics.specs.Machine.Loaded.{OfFile, Part, Loaded}
 use Rattle.cjc_examples.specs.Narrow.Both.{over, loaded}

@@ -1,12 +1,12 @@
 -- A package made by hand as class files and as components: p/M and p/N share the interface p/I alone, and p/T.t calls v
 -- on one of them.
 use Rattle.std.specs.Prelude.{[], ◌∷◌, ◌++◌, codes}
-use Rattle.cjc_tokens.specs.ClassFile.declared.tree.ClassTree.{ClassTree}
-use Rattle.cjc_tokens.specs.ClassFile.PoolItem as items
-use Rattle.cjc_components.specs.CapRead.declared.tree.ClassRef.TheVariants.{Inside, Outside}
-use Rattle.cjc_components.specs.CapRead.declared.tree.PoolEntry.TheVariants.{Classref}
+use Rattle.cjc_code.specs.ClassFile.declared.tree.ClassTree.{ClassTree}
+use Rattle.cjc_code.specs.ClassFile.PoolItem as items
+use Rattle.cjc_capwrite.specs.CapRead.declared.tree.ClassRef.TheVariants.{Inside, Outside}
+use Rattle.cjc_capwrite.specs.CapRead.declared.tree.PoolEntry.TheVariants.{Classref}
 use Rattle.cjc_world.specs.Files.{Files}
-use Rattle.cjc_components.specs.JvmSemantics.Worked.{abstract, method, virtual, class}
+use Rattle.cjc_components.specs.LowerJvmSemantics.Worked.{abstract, method, virtual, class}
 use Rattle.cjc_card_semantics.specs.Machine.Worked.{id, method_at, described, class_with, no_statics, named, names}
 use Rattle.cjc_card_semantics.specs.Machine.Worked.{object}
 use Rattle.cjc_card_semantics.specs.Machine.Loaded.{OfFile, Part, Loaded}

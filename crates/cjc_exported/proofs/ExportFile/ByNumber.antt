@@ -2,10 +2,10 @@
 use Rattle.std.proofs.Common.{◌≡◌, ℕ, zero, suc, ◌+◌, ◌≤◌, refl, sym, ap, ◌∙◌, arith, Bool, true, false, List, [], ◌∷◌}
 use Rattle.std.proofs.Common.{◌++◌, length}
 use Rattle.std.specs.Prelude.{Option, Some, None, if◌then◌else◌, not, filter, slice_get, ◌==◌, ◌&&◌}
-use Rattle.cjc_world.specs.LowerBytes.declared.settings.FileLine.{FileLine}
-use Rattle.cjc_components.specs.ClassFile.declared.tree.ClassTree.{ClassTree}
-use Rattle.cjc_world.specs.LowerExportFile.declared.tree.ExportClass.{ExportClass}
-use Rattle.cjc_world.specs.LowerExportFile.declared.tree.ExportTree.{ExportTree}
+use Rattle.cjc_world.specs.Bytes.declared.settings.FileLine.{FileLine}
+use Rattle.cjc_world.specs.ClassFile.declared.tree.ClassTree.{ClassTree}
+use Rattle.cjc_world.specs.ExportFile.declared.tree.ExportClass.{ExportClass}
+use Rattle.cjc_world.specs.ExportFile.declared.tree.ExportTree.{ExportTree}
 use Rattle.cjc_world.specs.Files.{Files}
 use Rattle.cjc_world.specs.Classes.{Class, declared, imported, numbered, size, of_class_file, of_export_file}
 use Rattle.cjc_world.specs.Classes.{classes_from, all_classes, class_at}

@@ -3,16 +3,16 @@ use Rattle.std.proofs.Common.{◌≡◌, ℕ, ◌+◌, ◌≤◌, ◌<◌, refl,
 use Rattle.std.proofs.Common.{◌++◌, length, map}
 use Rattle.std.specs.Prelude.{Option, Some, None, if◌then◌else◌, option_and_then, option_map, slice_get, unwrap_or}
 use Rattle.std.proofs.lemmas.Option.{slice_get-map}
-use Rattle.cjc_components.specs.CapRead.declared.tree.ClassRef.{ClassRef}
-use Rattle.cjc_components.specs.CapRead.declared.tree.ExportedClass.{ExportedClass}
-use Rattle.cjc_components.specs.ClassFile.declared.tree.ClassTree.{ClassTree}
-use Rattle.cjc_world.specs.LowerExportFile.declared.tree.ExportTree.{ExportTree}
+use Rattle.cjc_components.specs.LowerCapRead.declared.tree.ClassRef.{ClassRef}
+use Rattle.cjc_components.specs.LowerCapRead.declared.tree.ExportedClass.{ExportedClass}
+use Rattle.cjc_world.specs.ClassFile.declared.tree.ClassTree.{ClassTree}
+use Rattle.cjc_world.specs.ExportFile.declared.tree.ExportTree.{ExportTree}
 use Rattle.cjc_world.specs.declared.found.Found.{Found}
 use Rattle.cjc_world.specs.Classes.{Member, Class, class_at}
 use Rattle.cjc_world.specs.Lookup.{member_at}
-use Rattle.cjc_components.specs.Tokens.Methods.{is_open_bound}
-use Rattle.cjc_components.specs.CardSemantics.Machine.Classes.{Own, External, external_from, or_else, token_named}
-use Rattle.cjc_components.specs.Clinit.Image.{field_id}
+use Rattle.cjc_components.specs.LowerTokens.Methods.{is_open_bound}
+use Rattle.cjc_components.specs.LowerCardSemantics.Machine.Classes.{Own, External, external_from, or_else, token_named}
+use Rattle.cjc_components.specs.LowerClinit.Image.{field_id}
 use Rattle.cjc_components.proofs.VTableNumbers.{at-tree}
 use Rattle.cjc_components.specs.Package.{Package, world}
 use Rattle.cjc_components.specs.Class.{fields_in}

@@ -3,15 +3,15 @@ use Rattle.std.proofs.Common.{◌≡◌, ℕ, ◌+◌, ◌<◌, ◌≤◌, refl,
 use Rattle.std.proofs.Common.{drop, length}
 use Rattle.std.specs.Prelude.{Option, Some, None, if◌then◌else◌, filter, not, slice_get, ◌&&◌}
 use Rattle.std.proofs.lemmas.List.{length-map}
-use Rattle.cjc_world.specs.LowerBytes.declared.settings.FileLine.{FileLine}
-use Rattle.cjc_components.specs.ClassFile.declared.tree.ClassTree.{ClassTree}
-use Rattle.cjc_world.specs.LowerExportFile.declared.tree.ExportClass.{ExportClass}
-use Rattle.cjc_world.specs.LowerExportFile.declared.tree.ExportTree.{ExportTree}
+use Rattle.cjc_world.specs.Bytes.declared.settings.FileLine.{FileLine}
+use Rattle.cjc_world.specs.ClassFile.declared.tree.ClassTree.{ClassTree}
+use Rattle.cjc_world.specs.ExportFile.declared.tree.ExportClass.{ExportClass}
+use Rattle.cjc_world.specs.ExportFile.declared.tree.ExportTree.{ExportTree}
 use Rattle.cjc_world.specs.Classes.{Class, declared, numbered, size, of_class_file, of_export_file, classes_from}
 use Rattle.cjc_world.specs.Classes.{all_classes}
 use Rattle.cjc_world.specs.Exported.{is_exported}
-use Rattle.cjc_components.specs.Tokens.Rules.{FewExported, count_exported}
-use Rattle.cjc_components.specs.Tokens.Tokens.{one_more}
+use Rattle.cjc_components.specs.LowerTokens.Rules.{FewExported, count_exported}
+use Rattle.cjc_components.specs.LowerTokens.Tokens.{one_more}
 use Rattle.cjc_components.specs.Package.{Package, has_applets}
 use Rattle.cjc_components.specs.Exports.{exported_classes}
 use Rattle.cjc_components.specs.ExportFile.{export_class, export_of}

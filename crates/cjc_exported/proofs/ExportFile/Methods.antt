@@ -5,7 +5,7 @@ use Rattle.std.specs.Prelude.{Option, Some, None, if◌then◌else◌, filter, i
 use Rattle.std.specs.Prelude.{option_map, unwrap_or, ◌||◌}
 use Rattle.std.proofs.Math.ListN.{drop_of_length-le}
 use Rattle.std.proofs.lemmas.Option.{slice_get-map}
-use Rattle.cjc_world.specs.LowerBytes.AccessFlags.{is_interface}
+use Rattle.cjc_world.specs.Bytes.AccessFlags.{is_interface}
 use Rattle.cjc_world.specs.Files.{Files}
 use Rattle.cjc_world.specs.Classes.{Member, Class, all_classes, class_at}
 use Rattle.cjc_world.specs.Added.{added, added_at, added_to, named_by}
@@ -13,13 +13,13 @@ use Rattle.cjc_world.specs.declared.class.Known.{Known}
 use Rattle.cjc_world.specs.declared.found.Found.{Found}
 use Rattle.cjc_world.specs.Working.Known.{class_of}
 use Rattle.cjc_world.specs.Lookup.{is_called, member_at}
-use Rattle.cjc_components.specs.Tokens.Members.{Signature, has, signatures}
-use Rattle.cjc_components.specs.Tokens.Lines.{line_at}
-use Rattle.cjc_components.specs.Tokens.Methods.{interface_row}
-use Rattle.cjc_components.specs.Tokens.Slots.{row}
-use Rattle.cjc_components.specs.Tokens.Tokens.{assigned, public_in, public_methods_of}
-use Rattle.cjc_components.specs.Tokens.declared.slot.Slot.{Slot}
-use Rattle.cjc_components.specs.Tokens.Working.{signature_in, signs}
+use Rattle.cjc_components.specs.LowerTokens.Members.{Signature, has, signatures}
+use Rattle.cjc_components.specs.LowerTokens.Lines.{line_at}
+use Rattle.cjc_components.specs.LowerTokens.Methods.{interface_row}
+use Rattle.cjc_components.specs.LowerTokens.Slots.{row}
+use Rattle.cjc_components.specs.LowerTokens.Tokens.{assigned, public_in, public_methods_of}
+use Rattle.cjc_components.specs.LowerTokens.declared.slot.Slot.{Slot}
+use Rattle.cjc_components.specs.LowerTokens.Working.{signature_in, signs}
 use Rattle.cjc_components.proofs.TokensFacts.{position-cons}
 use Rattle.cjc_components.proofs.VTableNumbers.{at-kind, at-tree}
 use Rattle.cjc_components.specs.Package.{Package}

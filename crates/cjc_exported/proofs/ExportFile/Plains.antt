@@ -1,11 +1,11 @@
 -- Packages of one list and one set of files have one export file.
 use Rattle.std.proofs.Common.{◌≡◌, ℕ, ◌+◌, refl, sym, ap, ◌∙◌, List, [], ◌∷◌, ◌++◌, map, length}
 use Rattle.std.specs.Prelude.{if◌then◌else◌, Some}
-use Rattle.cjc_components.specs.List.Listed.{ListTree}
-use Rattle.cjc_components.specs.ClassFile.declared.tree.FieldTree.{FieldTree}
-use Rattle.cjc_world.specs.LowerExportFile.declared.tree.ExportField.{ExportField}
-use Rattle.cjc_world.specs.LowerExportFile.declared.tree.ExportMethod.{ExportMethod}
-use Rattle.cjc_world.specs.LowerExportFile.declared.tree.ExportClass.{ExportClass}
+use Rattle.cjc_components.specs.LowerList.Listed.{ListTree}
+use Rattle.cjc_world.specs.ClassFile.declared.tree.FieldTree.{FieldTree}
+use Rattle.cjc_world.specs.ExportFile.declared.tree.ExportField.{ExportField}
+use Rattle.cjc_world.specs.ExportFile.declared.tree.ExportMethod.{ExportMethod}
+use Rattle.cjc_world.specs.ExportFile.declared.tree.ExportClass.{ExportClass}
 use Rattle.cjc_world.specs.Files.{Files}
 use Rattle.cjc_world.specs.Classes.{Member, Class}
 use Rattle.cjc_components.specs.Package.{Package, world}
@@ -16,7 +16,7 @@ use Rattle.cjc_components.specs.ExportFile.{inherited, export_class, export_of}
 use Rattle.cjc_components.specs.Class.{fields_of}
 use Rattle.cjc_components.specs.Descriptor.{as_added}
 use Rattle.cjc_components.specs.Names.{member_token}
-use Rattle.cjc_components.specs.Tokens.Members.{is_exposed}
+use Rattle.cjc_components.specs.LowerTokens.Members.{is_exposed}
 use Rattle.cjc_world.specs.Added.{added}
 use Rattle.cjc_world.specs.Lookup.{member_at}
 

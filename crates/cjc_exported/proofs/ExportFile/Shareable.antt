@@ -3,12 +3,12 @@ use Rattle.std.proofs.Common.{◌≡◌, refl, ap, ◌∙◌, List, [], ◌∷�
 use Rattle.std.specs.Prelude.{◌||◌, ◌&&◌}
 use Rattle.std.specs.List.{list_any}
 use Rattle.std.specs.Str.{bytes_eq}
-use Rattle.cjc_world.specs.LowerBytes.AccessFlags.{is_interface}
+use Rattle.cjc_world.specs.Bytes.AccessFlags.{is_interface}
 use Rattle.cjc_world.specs.Classes.{Class}
 use Rattle.cjc_world.specs.Exported.{shareable}
 use Rattle.cjc_world.specs.Interfaces.{Interface, is_among}
-use Rattle.cjc_components.specs.ClassOrder.Supers.Supers.{interfaces, name_of}
-use Rattle.cjc_components.specs.Tokens.Methods.{interfaces_at}
+use Rattle.cjc_components.specs.LowerClassOrder.Supers.Supers.{interfaces, name_of}
+use Rattle.cjc_components.specs.LowerTokens.Methods.{interfaces_at}
 use Rattle.cjc_components.specs.Class.{is_shareable}
 
 any-named : (is : List Interface) (x : List ℕ) → list_any (λ n. bytes_eq n x) (map name_of is) ≡ is_among is x

@@ -4,15 +4,15 @@ use Rattle.std.proofs.Common.{[], ◌∷◌, ◌++◌, drop, length}
 use Rattle.std.specs.Prelude.{Option, Some, None, if◌then◌else◌, filter, option_and_then, option_map, slice_get}
 use Rattle.std.specs.Prelude.{unwrap_or}
 use Rattle.std.proofs.lemmas.Option.{slice_get-map, slice_get_within}
-use Rattle.cjc_world.specs.LowerBytes.declared.settings.FileLine.{FileLine}
-use Rattle.cjc_components.specs.ClassFile.declared.tree.ClassTree.{ClassTree}
-use Rattle.cjc_world.specs.LowerExportFile.declared.tree.ExportClass.{ExportClass}
-use Rattle.cjc_world.specs.LowerExportFile.declared.tree.ExportTree.{ExportTree}
+use Rattle.cjc_world.specs.Bytes.declared.settings.FileLine.{FileLine}
+use Rattle.cjc_world.specs.ClassFile.declared.tree.ClassTree.{ClassTree}
+use Rattle.cjc_world.specs.ExportFile.declared.tree.ExportClass.{ExportClass}
+use Rattle.cjc_world.specs.ExportFile.declared.tree.ExportTree.{ExportTree}
 use Rattle.cjc_world.specs.Classes.{Class, declared, size, of_class_file, of_export_file, classes_from, all_classes}
 use Rattle.cjc_world.specs.Exported.{is_exported}
-use Rattle.cjc_components.specs.Tokens.Rules.{count_exported}
-use Rattle.cjc_components.specs.Tokens.Tokens.{OfClass, assigned, of_class, one_more, token_of_class}
-use Rattle.cjc_components.specs.Tokens.Tokens as tokens
+use Rattle.cjc_components.specs.LowerTokens.Rules.{count_exported}
+use Rattle.cjc_components.specs.LowerTokens.Tokens.{OfClass, assigned, of_class, one_more, token_of_class}
+use Rattle.cjc_components.specs.LowerTokens.Tokens as tokens
 use Rattle.cjc_components.specs.Package.{Package, has_applets}
 use Rattle.cjc_components.specs.Exports.{exported_classes}
 use Rattle.cjc_components.specs.ExportFile.{export_class, export_of}

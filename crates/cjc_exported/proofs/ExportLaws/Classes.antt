@@ -4,15 +4,15 @@ use Rattle.std.proofs.Common.{◌++◌, length, take, arith, Some}
 use Rattle.std.specs.Prelude.{slice_get, if◌then◌else◌}
 use Rattle.std.proofs.lemmas.List.{length-map}
 use Rattle.std.proofs.lemmas.Option.{slice_get_within}
-use Rattle.cjc_components.specs.ClassFile.declared.tree.FieldTree.{FieldTree}
-use Rattle.cjc_world.specs.LowerExportFile.declared.tree.ExportClass.{ExportClass}
+use Rattle.cjc_world.specs.ClassFile.declared.tree.FieldTree.{FieldTree}
+use Rattle.cjc_world.specs.ExportFile.declared.tree.ExportClass.{ExportClass}
 use Rattle.cjc_world.proofs.ExportFileRooted.{root_same}
-use Rattle.cjc_world.specs.LowerExportFile.ExportFile.{class_token, new_name}
-use Rattle.cjc_world.specs.LowerExportFile.Writable.{ClassFits, EachAfter, FieldFits, IsWritable}
+use Rattle.cjc_world.specs.ExportFile.ExportFile.{class_token, new_name}
+use Rattle.cjc_world.specs.ExportFile.Writable.{ClassFits, EachAfter, FieldFits, IsWritable}
 use Rattle.cjc_world.specs.Classes.{Class, field_of_class}
 use Rattle.cjc_world.specs.Supertypes.{supertypes}
-use Rattle.cjc_components.specs.ClassOrder.Supers.Supers.{names_upwards, superclasses}
-use Rattle.cjc_components.specs.Tokens.Members.{is_exposed}
+use Rattle.cjc_components.specs.LowerClassOrder.Supers.Supers.{names_upwards, superclasses}
+use Rattle.cjc_components.specs.LowerTokens.Members.{is_exposed}
 use Rattle.cjc_components.specs.Class.{fields_in, fields_of, is_shareable}
 use Rattle.cjc_components.specs.Package.{Package, world}
 use Rattle.cjc_components.specs.ExportFile.{export_class, export_of, field_entry, fields_from}

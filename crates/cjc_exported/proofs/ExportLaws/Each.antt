@@ -3,7 +3,7 @@ use Rattle.std.proofs.Common.{◌≡◌, ℕ, zero, suc, ◌<◌, refl, sym, ap,
 use Rattle.std.proofs.Common.{map, take, append_assoc, append-nil, arith, Some}
 use Rattle.std.specs.Prelude.{◌||◌, ◌&&◌, slice_get, filter, if◌then◌else◌}
 use Rattle.std.specs.List.{AllByRecursion, list_any}
-use Rattle.cjc_world.specs.LowerExportFile.Writable.{EachAfter}
+use Rattle.cjc_world.specs.ExportFile.Writable.{EachAfter}
 
 -- each is so at its place
 pub each_at : {A : Type 0} (P : List A → A → Type 0) (before xs : List A) → ((k : ℕ) (x : A) → slice_get xs k ≡ Some x

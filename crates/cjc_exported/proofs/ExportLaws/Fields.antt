@@ -8,17 +8,18 @@ use Rattle.std.specs.Int.{w32}
 use Rattle.std.proofs.lemmas.List.{length-append, take_all}
 use Rattle.std.proofs.lemmas.Option.{slice_get_within, get_or_from_slice_get}
 use Rattle.std.proofs.lemmas.Bool.Decides.{nat_tests}
-use Rattle.cjc_world.specs.LowerBytes.AccessFlags.{is_static}
-use Rattle.cjc_components.specs.ClassFile.declared.tree.FieldTree.{FieldTree}
-use Rattle.cjc_world.specs.LowerExportFile.declared.tree.ExportField.{ExportField}
-use Rattle.cjc_world.specs.LowerExportFile.Members.{field_token_taken, may_be_constant, same_bool}
-use Rattle.cjc_world.specs.LowerExportFile.Writable.{EachAfter, FieldFits, ValueFits}
+use Rattle.cjc_world.specs.Bytes.AccessFlags.{is_static}
+use Rattle.cjc_world.specs.ClassFile.declared.tree.FieldTree.{FieldTree}
+use Rattle.cjc_world.specs.ExportFile.declared.tree.ExportField.{ExportField}
+use Rattle.cjc_world.specs.ExportFile.Members.{field_token_taken, may_be_constant, same_bool}
+use Rattle.cjc_world.specs.ExportFile.Writable.{EachAfter, FieldFits, ValueFits}
 use Rattle.cjc_world.specs.Classes.{Class}
 use Rattle.cjc_world.specs.Lookup.{member_at}
-use Rattle.cjc_components.specs.Tokens.Fields.{field_token, instance_cells, instance_token, is_constant, is_instance}
-use Rattle.cjc_components.specs.Tokens.Fields.{is_open_static}
-use Rattle.cjc_components.specs.Tokens.Members.{is_exposed}
-use Rattle.cjc_components.specs.Tokens.Rules.{HasFewCells}
+use Rattle.cjc_components.specs.LowerTokens.Fields.{field_token, instance_cells, instance_token, is_constant}
+use Rattle.cjc_components.specs.LowerTokens.Fields.{is_instance}
+use Rattle.cjc_components.specs.LowerTokens.Fields.{is_open_static}
+use Rattle.cjc_components.specs.LowerTokens.Members.{is_exposed}
+use Rattle.cjc_components.specs.LowerTokens.Rules.{HasFewCells}
 use Rattle.cjc_components.specs.Package.{Package}
 use Rattle.cjc_components.specs.ExportFile.{field_entry, fields_from}
 use Rattle.cjc_components.specs.Names.{member_token}

@@ -3,7 +3,7 @@ use Rattle.std.proofs.Common.{ℕ, ◌+◌, ◌<◌, ◌^◌, Bool, true, false,
 use Rattle.std.specs.Prelude.{if◌then◌else◌}
 use Rattle.std.specs.Int.Bits.{bit_or, or_add_and}
 use Rattle.std.proofs.lemmas.Nat.{and_le_l, or_of_16}
-use Rattle.cjc_world.specs.LowerBytes.AccessFlags.{acc_shareable, acc_super}
+use Rattle.cjc_world.specs.Bytes.AccessFlags.{acc_shareable, acc_super}
 use Rattle.cjc_components.specs.ExportFile.{without}
 
 with_flag : (f : ℕ) → f < 2 ^ 16 → without f acc_shareable + acc_shareable < 2 ^ 16

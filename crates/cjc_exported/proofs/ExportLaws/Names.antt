@@ -5,11 +5,11 @@ use Rattle.std.specs.Prelude.{slice_get, option_map, unwrap_or, not, ◌==◌, �
 use Rattle.std.specs.Str.{bytes_eq}
 use Rattle.std.proofs.lemmas.Option.{slice_get-map}
 use Rattle.std.proofs.lemmas.Bool.Decides.{nat_tests}
-use Rattle.cjc_world.specs.LowerExportFile.declared.tree.ExportClass.{ExportClass}
-use Rattle.cjc_world.specs.LowerExportFile.ExportFile.{class_token, name_taken, new_name, token_taken}
+use Rattle.cjc_world.specs.ExportFile.declared.tree.ExportClass.{ExportClass}
+use Rattle.cjc_world.specs.ExportFile.ExportFile.{class_token, name_taken, new_name, token_taken}
 use Rattle.cjc_world.specs.Classes.{Class, class_at, class_named, is_at}
 use Rattle.cjc_world.specs.Rules.{is_other, is_second, same_place}
-use Rattle.cjc_components.specs.Tokens.Tokens.{token_of_class}
+use Rattle.cjc_components.specs.LowerTokens.Tokens.{token_of_class}
 use Rattle.cjc_components.specs.Package.{Package, tokens, world}
 use Rattle.cjc_components.specs.Exports.{exported_classes}
 use Rattle.cjc_components.specs.ExportFile.{export_class, export_of}

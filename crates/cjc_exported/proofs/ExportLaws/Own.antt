@@ -1,7 +1,7 @@
 -- The classes that others may name are classes of the package's files.
 use Rattle.std.proofs.Common.{◌≡◌, ℕ, sym, ◌∙◌, true, false, Some}
 use Rattle.std.specs.Prelude.{slice_get}
-use Rattle.cjc_components.specs.ClassFile.declared.tree.ClassTree.{ClassTree}
+use Rattle.cjc_world.specs.ClassFile.declared.tree.ClassTree.{ClassTree}
 use Rattle.cjc_world.specs.Classes.{Class, declared, class_at}
 use Rattle.cjc_world.specs.Exported.{is_exported}
 use Rattle.cjc_components.proofs.VTableNumbers.{at-tree}

@@ -6,15 +6,15 @@ use Rattle.std.specs.List.{AllByRecursion, flat_map, list_any}
 use Rattle.std.specs.Str.{bytes_eq}
 use Rattle.std.proofs.lemmas.List.{length-map, map-append}
 use Rattle.indexmap.specs.IndexSet.{insert_all, insert_key}
-use Rattle.cjc_world.specs.LowerExportFile.declared.tree.ExportClass.{ExportClass}
-use Rattle.cjc_world.specs.LowerExportFile.declared.tree.ExportTree.{ExportTree}
-use Rattle.cjc_world.specs.LowerExportFile.Constant.{Constant, class, same}
-use Rattle.cjc_world.specs.LowerExportFile.Supers.{is_one_of}
-use Rattle.cjc_world.specs.LowerExportFile.Written.{class_needs, class_tree_needs, constants, field_needs, method_needs}
-use Rattle.cjc_world.specs.LowerExportFile.Written.{needs}
+use Rattle.cjc_world.specs.ExportFile.declared.tree.ExportClass.{ExportClass}
+use Rattle.cjc_world.specs.ExportFile.declared.tree.ExportTree.{ExportTree}
+use Rattle.cjc_world.specs.ExportFile.Constant.{Constant, class, same}
+use Rattle.cjc_world.specs.ExportFile.Supers.{is_one_of}
+use Rattle.cjc_world.specs.ExportFile.Written.{class_needs, class_tree_needs, constants, field_needs, method_needs}
+use Rattle.cjc_world.specs.ExportFile.Written.{needs}
 use Rattle.cjc_world.proofs.ExportFileNumbering.{Has, all_back, all_front, all_in}
 use Rattle.cjc_world.proofs.ExportFileWorth.{total, worth_at_most}
-use Rattle.cjc_components.specs.ClassOrder.Supers.Supers.{each_once}
+use Rattle.cjc_components.specs.LowerClassOrder.Supers.Supers.{each_once}
 use Rattle.cjc_world.proofs.BytesLists.{bytes_sym}
 
 -- ---- names of their own

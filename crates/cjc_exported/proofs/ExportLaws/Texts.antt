@@ -4,16 +4,16 @@ use Rattle.std.proofs.Common.{Option, Some, None}
 use Rattle.std.specs.Prelude.{if◌then◌else◌}
 use Rattle.std.specs.List.{AllByRecursion}
 use Rattle.cjc_world.proofs.ExportFileRooted.{root_texts}
-use Rattle.cjc_world.specs.LowerExportFile.Supers.{is_one_of}
-use Rattle.cjc_world.specs.LowerExportFile.Writable.{ClassFits, IsText}
+use Rattle.cjc_world.specs.ExportFile.Supers.{is_one_of}
+use Rattle.cjc_world.specs.ExportFile.Writable.{ClassFits, IsText}
 use Rattle.cjc_world.specs.Classes.{Class, class_named}
 use Rattle.cjc_world.specs.Supertypes.{Supertypes, End, Unknown, Known, supertypes_within, in_a_row, supertypes}
 use Rattle.cjc_world.specs.Supertypes.{known_as}
 use Rattle.cjc_world.specs.Interfaces.{Interface, gathered, is_among, where_listed}
 use Rattle.cjc_world.specs.Interfaces as worlds
-use Rattle.cjc_components.specs.ClassOrder.Supers.Supers.{each_once, interfaces, name_of, names_upwards}
-use Rattle.cjc_components.specs.ClassOrder.Supers.Supers.{superclasses}
-use Rattle.cjc_components.specs.Subset.Members.{imports}
+use Rattle.cjc_components.specs.LowerClassOrder.Supers.Supers.{each_once, interfaces, name_of, names_upwards}
+use Rattle.cjc_components.specs.LowerClassOrder.Supers.Supers.{superclasses}
+use Rattle.cjc_components.specs.LowerSubset.Members.{imports}
 use Rattle.cjc_components.proofs.VTableFiled.{IsFiled, filed, get-has, has-get, in_class_file}
 use Rattle.cjc_components.proofs.VTableFiled.{in_export_file, of-imports}
 use Rattle.cjc_components.specs.Package.{Package, world}

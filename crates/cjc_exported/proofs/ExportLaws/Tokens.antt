@@ -6,18 +6,18 @@ use Rattle.std.specs.Prelude.{if◌then◌else◌}
 use Rattle.std.proofs.lemmas.List.Sums.{sum_by-cons}
 use Rattle.std.proofs.lemmas.Bool.{cases_order}
 use Rattle.std.proofs.lemmas.Bool.Decides.{nat_tests}
-use Rattle.cjc_world.specs.LowerBytes.declared.settings.FileLine.{FileLine}
-use Rattle.cjc_world.specs.LowerBytes.Order.{file_of}
-use Rattle.cjc_components.specs.ClassFile.declared.tree.ClassTree.{ClassTree}
-use Rattle.cjc_components.specs.ClassFile.declared.tree.FieldTree.{FieldTree}
+use Rattle.cjc_world.specs.Bytes.declared.settings.FileLine.{FileLine}
+use Rattle.cjc_world.specs.Bytes.Order.{file_of}
+use Rattle.cjc_world.specs.ClassFile.declared.tree.ClassTree.{ClassTree}
+use Rattle.cjc_world.specs.ClassFile.declared.tree.FieldTree.{FieldTree}
 use Rattle.cjc_world.specs.Classes.{Class, declared}
 use Rattle.cjc_world.specs.Exported.{is_exported}
 use Rattle.cjc_world.specs.Lookup.{member_at}
-use Rattle.cjc_components.specs.Tokens.Fields.{cells, cells_of, field_token, field_tokens, group, instance_cells}
-use Rattle.cjc_components.specs.Tokens.Fields.{instance_token}
-use Rattle.cjc_components.specs.Tokens.Fields.{is_instance, is_open_static}
-use Rattle.cjc_components.specs.Tokens.Tokens.{OfClass, assigned, joined, method_tokens}
-use Rattle.cjc_components.specs.Tokens.Rules.{at_class, breaks_from, breaks_where, has_high_token, token_breaks}
+use Rattle.cjc_components.specs.LowerTokens.Fields.{cells, cells_of, field_token, field_tokens, group, instance_cells}
+use Rattle.cjc_components.specs.LowerTokens.Fields.{instance_token}
+use Rattle.cjc_components.specs.LowerTokens.Fields.{is_instance, is_open_static}
+use Rattle.cjc_components.specs.LowerTokens.Tokens.{OfClass, assigned, joined, method_tokens}
+use Rattle.cjc_components.specs.LowerTokens.Rules.{at_class, breaks_from, breaks_where, has_high_token, token_breaks}
 use Rattle.cjc_components.proofs.TokensSums.{some_cells, cells-cons}
 use Rattle.cjc_components.specs.Package.{Package, has_applets, world}
 use Rattle.cjc_components.specs.Names.{member_token}

@@ -4,10 +4,10 @@
 ghost use Rattle.std.specs.Prelude.{◌≡◌, ◌+◌, ◌-◌, ◌++◌, [], bit_and, false, if◌then◌else◌, length, map, IfOk};
 ghost use Rattle.std.specs.List.{list_any};
 ghost use Rattle.std.specs.Str.{bytes_eq};
-ghost use Rattle.cjc_world.specs.LowerBytes.AccessFlags.{acc_shareable};
+ghost use Rattle.cjc_world.specs.Bytes.AccessFlags.{acc_shareable};
 ghost use Rattle.cjc_world.specs.Exported.{shareable};
 ghost use Rattle.cjc_world.specs.Working.Known.{class_of};
-ghost use Rattle.cjc_components.specs.ClassOrder.Supers.Supers.{interfaces};
+ghost use Rattle.cjc_components.specs.LowerClassOrder.Supers.Supers.{interfaces};
 ghost use Rattle.cjc_components.specs.Class.{is_shareable};
 ghost use Rattle.cjc_components.specs.ExportFile.{class_flags, export_class, without};
 ghost use Rattle.cjc_exported.specs.ExportFile.Working.Sources.{AreSources, IsNumbered, methods_of, package_in};

@@ -3,14 +3,14 @@
 
 ghost use Rattle.std.specs.Prelude.{◌≡◌, ◌+◌, ◌≤◌, ◌<◌, ◌∷◌, ◌++◌, ℕ, [], filter, false, if◌then◌else◌, length, map};
 ghost use Rattle.std.specs.Prelude.{slice_get, unwrap_or, IfOk, OnOk, Some};
-ghost use Rattle.cjc_components.specs.ClassFile.declared.tree.FieldTree.{FieldTree as Field};
+ghost use Rattle.cjc_world.specs.ClassFile.declared.tree.FieldTree.{FieldTree as Field};
 ghost use Rattle.cjc_world.specs.declared.found.Found.{Found as Place};
 ghost use Rattle.cjc_world.specs.Classes.{all_classes, class_at};
 ghost use Rattle.cjc_world.specs.Exported.{is_exported};
 ghost use Rattle.cjc_world.specs.Lookup.{member_at};
 ghost use Rattle.cjc_world.specs.Working.Known.{class_of};
-ghost use Rattle.cjc_components.specs.Tokens.Fields.{is_open_static};
-ghost use Rattle.cjc_components.specs.Tokens.Methods.{is_open_bound};
+ghost use Rattle.cjc_components.specs.LowerTokens.Fields.{is_open_static};
+ghost use Rattle.cjc_components.specs.LowerTokens.Methods.{is_open_bound};
 ghost use Rattle.cjc_components.specs.Class.{fields_in};
 ghost use Rattle.cjc_components.specs.Exports.{export, exported_class, exported_classes, open_methods};
 ghost use Rattle.cjc_components.specs.Package.{Package, has_applets};

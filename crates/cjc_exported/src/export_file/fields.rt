@@ -3,8 +3,8 @@
 
 ghost use Rattle.std.specs.Prelude.{◌≡◌, ◌++◌, ◌∷◌, [], if◌then◌else◌, IfOk, None, OnOk};
 ghost use Rattle.cjc_world.specs.Working.Known.{class_of};
-ghost use Rattle.cjc_components.specs.Tokens.Fields.{is_constant};
-ghost use Rattle.cjc_components.specs.Tokens.Members.{is_exposed};
+ghost use Rattle.cjc_components.specs.LowerTokens.Fields.{is_constant};
+ghost use Rattle.cjc_components.specs.LowerTokens.Members.{is_exposed};
 ghost use Rattle.cjc_components.specs.Class.{fields_of};
 ghost use Rattle.cjc_components.specs.ExportFile.{field_entry, fields_from};
 ghost use Rattle.cjc_exported.specs.ExportFile.Working.Sources.{AreSources, package_in};

@@ -2,11 +2,11 @@
 //! of an interface those of its superinterfaces.
 
 ghost use Rattle.std.specs.Prelude.{◌≡◌, ◌++◌, List, false, is_some, map, option_map, IfOk, OnOk, Some};
-ghost use Rattle.cjc_components.specs.Tokens.Members.{Signature};
-ghost use Rattle.cjc_components.specs.Tokens.Methods.{interface_methods};
-ghost use Rattle.cjc_components.specs.Tokens.Tokens.{public_methods_of};
-ghost use Rattle.cjc_components.specs.Tokens.Working.{signature_in, signs};
-ghost use Rattle.cjc_components.specs.VTable.Tables.{is_own};
+ghost use Rattle.cjc_components.specs.LowerTokens.Members.{Signature};
+ghost use Rattle.cjc_components.specs.LowerTokens.Methods.{interface_methods};
+ghost use Rattle.cjc_components.specs.LowerTokens.Tokens.{public_methods_of};
+ghost use Rattle.cjc_components.specs.LowerTokens.Working.{signature_in, signs};
+ghost use Rattle.cjc_components.specs.LowerVTable.Tables.{is_own};
 ghost use Rattle.cjc_world.specs.Working.Known.{class_of};
 ghost use Rattle.cjc_components.specs.ExportFile.{declares, exposed_entry, inherited, inherited_at, inherited_from};
 ghost use Rattle.cjc_components.specs.ExportFile.{super_at, super_entry, supers_from};

@@ -2,8 +2,8 @@
 //! on this.
 
 ghost use Rattle.std.specs.Prelude.{◌≡◌, ◌<◌, ℕ, length, slice_get, Some};
-ghost use Rattle.cjc_world.specs.LowerExportFile.declared.tree.ExportClass.{ExportClass as Exported};
-ghost use Rattle.cjc_components.specs.Tokens.Rules.{FewExported};
+ghost use Rattle.cjc_world.specs.ExportFile.declared.tree.ExportClass.{ExportClass as Exported};
+ghost use Rattle.cjc_components.specs.LowerTokens.Rules.{FewExported};
 ghost use Rattle.cjc_components.specs.ExportFile.{export_of};
 ghost use Rattle.cjc_components.specs.Package.{Package, has_applets};
 

@@ -4,7 +4,7 @@ ghost use Rattle.std.specs.Prelude.{◌≡◌, ◌<◌, ◌∷◌, ◌++◌, [],
 ghost use Rattle.std.specs.Prelude.{OnOk};
 ghost use Rattle.cjc_world.specs.Classes.{Member};
 ghost use Rattle.cjc_world.specs.Working.Known.{class_of};
-ghost use Rattle.cjc_components.specs.Tokens.Members.{is_exposed, is_initialiser};
+ghost use Rattle.cjc_components.specs.LowerTokens.Members.{is_exposed, is_initialiser};
 ghost use Rattle.cjc_components.specs.Descriptor.{no_member};
 ghost use Rattle.cjc_components.specs.ExportFile.{is_listed, method_entry};
 ghost use Rattle.cjc_exported.specs.ExportFile.Working.Sources.{bare, given, method_of};

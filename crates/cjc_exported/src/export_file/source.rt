@@ -6,7 +6,7 @@ ghost use Rattle.cjc_world.specs.Added.{added, named_by};
 ghost use Rattle.cjc_world.specs.Classes.{class_at};
 ghost use Rattle.cjc_world.specs.Lookup.{member_at};
 ghost use Rattle.cjc_world.specs.Working.Known.{class_of};
-ghost use Rattle.cjc_components.specs.Tokens.Tokens.{assigned, public_methods_of, token_of_class};
+ghost use Rattle.cjc_components.specs.LowerTokens.Tokens.{assigned, public_methods_of, token_of_class};
 ghost use Rattle.cjc_components.specs.Descriptor.{method_in};
 ghost use Rattle.cjc_components.specs.ExportFile.{method_meant};
 ghost use Rattle.cjc_components.specs.Names.{member_token};

@@ -4,7 +4,7 @@
 ghost use Rattle.std.specs.Prelude.{◌≡◌, ◌++◌, ◌∷◌, [], false, if◌then◌else◌, length, map, nat_lt, IfOk, OnOk};
 ghost use Rattle.cjc_world.specs.Exported.{is_exported};
 ghost use Rattle.cjc_world.specs.Working.Known.{class_of};
-ghost use Rattle.cjc_components.specs.Tokens.Tokens.{assigned};
+ghost use Rattle.cjc_components.specs.LowerTokens.Tokens.{assigned};
 ghost use Rattle.cjc_components.specs.ExportFile.{export_class, export_of};
 ghost use Rattle.cjc_components.specs.Exports.{exported_classes};
 ghost use Rattle.cjc_components.specs.Package.{Package};

@@ -1,8 +1,8 @@
 -- The first place at which a tested rule is broken.
 use Rattle.std.proofs.Common.{◌≡◌, ◌⊎◌, ◌≤◌, ◌<◌, ◌+◌, ℕ, zero, suc, List, [], ◌∷◌, drop, slice_get, Option, Some, None}
 use Rattle.std.proofs.Common.{refl, sym, ◌∙◌, ap, subst, add-zero, zero-add, arith, ℤ, true}
-use Rattle.cjc_intervals.specs.Bytes.declared.fault.MemberId.{MemberId}
-use Rattle.cjc_types.specs.LowerBytecode.declared.insn.JInsn.{JInsn}
+use Rattle.cjc_fixpoint.specs.Bytes.declared.fault.MemberId.{MemberId}
+use Rattle.cjc_types.specs.Bytecode.declared.insn.JInsn.{JInsn}
 use Rattle.cjc_types.specs.declared.state.State.{State}
 use Rattle.cjc_types.specs.declared.table.TypeTable.{TypeTable}
 use Rattle.cjc_types.specs.Flow.{Body}
@@ -15,7 +15,7 @@ use Rattle.cjc_flow.specs.Tables.{ranges_of}
 use Rattle.cjc_flow.specs.declared.tests.passing.Found.{Found}
 use Rattle.cjc_flow.specs.declared.tests.passing.Tested.{Tested}
 use Rattle.cjc_flow.specs.declared.tests.passing.Tested.TheVariants as tests
-use Rattle.cjc_intervals.specs.Bytes.declared.breaks.BrokenAt.{BrokenAt}
+use Rattle.cjc_fixpoint.specs.Bytes.declared.breaks.BrokenAt.{BrokenAt}
 use Rattle.cjc_flow.specs.Tests.Answers as answers
 use Rattle.cjc_flow.specs.Tests.Breaches.{IsFound, NoBreach, FirstBreach, is_tested}
 use Rattle.cjc_flow.specs.Tests.Working.Search.{lowest_rule, row_rule, or_later, first_from}

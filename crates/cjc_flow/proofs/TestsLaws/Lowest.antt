@@ -6,13 +6,13 @@ use Rattle.std.specs.Prelude.{not}
 use Rattle.std.proofs.lemmas.Bool.{leb-true, leb-false, eqb-true, cases_lt}
 use Rattle.std.proofs.lemmas.Int.{ints}
 use Rattle.std.proofs.lemmas.List.{get_or_append_left}
-use Rattle.cjc_intervals.specs.Bytes.Descriptor.{Part, Parts, part_at}
-use Rattle.cjc_intervals.specs.Bytes.declared.fault.MemberId.{MemberId}
-use Rattle.cjc_intervals.specs.Bytes.declared.descriptor.Kind.{Kind}
-use Rattle.cjc_intervals.specs.Bytes.declared.descriptor.Kind.TheVariants as kinds
+use Rattle.cjc_fixpoint.specs.Bytes.Descriptor.{Part, Parts, part_at}
+use Rattle.cjc_fixpoint.specs.Bytes.declared.fault.MemberId.{MemberId}
+use Rattle.cjc_fixpoint.specs.Bytes.declared.descriptor.Kind.{Kind}
+use Rattle.cjc_fixpoint.specs.Bytes.declared.descriptor.Kind.TheVariants as kinds
 use Rattle.cjc_range.specs.Span.{Span, Within, byte_range, short_range}
-use Rattle.cjc_types.specs.LowerBytecode.declared.insn.JOp.{JOp}
-use Rattle.cjc_types.specs.LowerBytecode.declared.insn.JOp.TheVariants as jop
+use Rattle.cjc_types.specs.Bytecode.declared.insn.JOp.{JOp}
+use Rattle.cjc_types.specs.Bytecode.declared.insn.JOp.TheVariants as jop
 use Rattle.cjc_types.specs.declared.cell.Cell.{Cell}
 use Rattle.cjc_types.specs.Flow.{Body}
 use Rattle.cjc_types.specs.Rules.{tests_references}

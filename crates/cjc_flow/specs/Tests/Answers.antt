@@ -1,7 +1,7 @@
 -- What is answered of a method's numbers: nothing where each operand lies where its rules say, else the first that may
 -- not.
 use Rattle.std.specs.Prelude.{◌≡◌, ℕ, List, Option, Some, None}
-use Rattle.cjc_intervals.specs.Bytes.declared.breaks.BrokenAt.{BrokenAt}
+use Rattle.cjc_fixpoint.specs.Bytes.declared.breaks.BrokenAt.{BrokenAt}
 use Rattle.cjc_types.specs.declared.state.State.{State}
 use Rattle.cjc_types.specs.Flow.{Body}
 use Rattle.cjc_intervals.specs.Frames.{RangeState}

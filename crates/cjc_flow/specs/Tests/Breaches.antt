@@ -2,7 +2,7 @@
 -- which.
 use Rattle.std.specs.Prelude.{◌≡◌, ◌⊎◌, ◌<◌, ◌≤◌, ◌==◌, ◌&&◌, ◌||◌, nat_le, not, ℕ, Bool, true, List, Option, Some}
 use Rattle.std.specs.Prelude.{None}
-use Rattle.cjc_intervals.specs.Bytes.declared.breaks.BrokenAt.{BrokenAt}
+use Rattle.cjc_fixpoint.specs.Bytes.declared.breaks.BrokenAt.{BrokenAt}
 use Rattle.cjc_types.specs.declared.state.State.{State}
 use Rattle.cjc_types.specs.Flow.{Body}
 use Rattle.cjc_intervals.specs.Frames.{RangeState}

@@ -2,9 +2,9 @@
 -- are.
 use Rattle.std.specs.Prelude.{List, [], ◌∷◌, ◌++◌, drop, Option, Some, None, ℤ}
 use Rattle.cjc_range.specs.Span.{Span, full}
-use Rattle.cjc_types.specs.LowerBytecode.declared.insn.JInsn.{JInsn}
-use Rattle.cjc_types.specs.LowerBytecode.declared.insn.JOp.{JOp}
-use Rattle.cjc_types.specs.LowerBytecode.declared.insn.JOp.TheVariants as jop
+use Rattle.cjc_types.specs.Bytecode.declared.insn.JInsn.{JInsn}
+use Rattle.cjc_types.specs.Bytecode.declared.insn.JOp.{JOp}
+use Rattle.cjc_types.specs.Bytecode.declared.insn.JOp.TheVariants as jop
 use Rattle.cjc_types.specs.declared.cell.Cell.{Cell}
 use Rattle.cjc_types.specs.declared.state.State.{State}
 use Rattle.cjc_types.specs.Steps.{takes}

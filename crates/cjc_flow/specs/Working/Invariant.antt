@@ -1,7 +1,7 @@
 -- What holds of a method that is kept with its types for its intervals.
 use Rattle.std.specs.Prelude.{◌≡◌, ◌<◌, ◌^◌, Bool, List, length, Option}
 use Rattle.cjc_range.specs.Span.{Span}
-use Rattle.cjc_intervals.specs.World.Classes.{Class}
+use Rattle.cjc_types.specs.World.Classes.{Class}
 use Rattle.cjc_types.specs.declared.table.TypeTable.{TypeTable}
 use Rattle.cjc_types.specs.Flow.{Body}
 use Rattle.cjc_types.specs.Tables.{IsTypeTable, rows_of}

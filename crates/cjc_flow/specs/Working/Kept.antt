@@ -3,8 +3,8 @@
 -- least table that is enough, since there each cell that is no number is full already.
 use Rattle.std.specs.Prelude.{ℕ, ◌+◌, nat_lt, if◌then◌else◌, List, [], ◌++◌, map, length, slice_get, get_or, filter_map}
 use Rattle.std.specs.Prelude.{Option, Some, None, option_map, ℤ}
-use Rattle.cjc_intervals.specs.ClassFile.declared.tree.Catch.{Catch}
-use Rattle.cjc_types.specs.LowerBytecode.declared.insn.JInsn.{JInsn}
+use Rattle.cjc_types.specs.ClassFile.declared.tree.Catch.{Catch}
+use Rattle.cjc_types.specs.Bytecode.declared.insn.JInsn.{JInsn}
 use Rattle.cjc_fixpoint.specs.declared.flow.Edge.{Edge}
 use Rattle.cjc_fixpoint.specs.Dataflow.{Dataflow}
 use Rattle.cjc_fixpoint.specs.Lattice.{flow_of}

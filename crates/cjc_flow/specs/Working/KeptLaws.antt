@@ -7,8 +7,8 @@ use Rattle.std.proofs.lemmas.List.Elements.{All-nil, All-cons, All-append, All-m
 use Rattle.std.proofs.lemmas.List.Elements.{Contains-append_left, Contains-append_right}
 use Rattle.cjc_range.specs.Span.{IsWord, full}
 use Rattle.cjc_range.proofs.Order.{within_refl, word_full}
-use Rattle.cjc_intervals.specs.ClassFile.declared.tree.Catch.{Catch}
-use Rattle.cjc_types.specs.LowerBytecode.declared.insn.JInsn.{JInsn}
+use Rattle.cjc_types.specs.ClassFile.declared.tree.Catch.{Catch}
+use Rattle.cjc_types.specs.Bytecode.declared.insn.JInsn.{JInsn}
 use Rattle.cjc_fixpoint.specs.declared.flow.Edge.{Edge}
 use Rattle.cjc_fixpoint.specs.Dataflow.{IsLawful, StaysWithin, AreBelow}
 use Rattle.cjc_fixpoint.specs.Kept.{MeetsAt, handed, handed_on}

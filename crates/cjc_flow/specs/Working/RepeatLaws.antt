@@ -5,10 +5,10 @@ use Rattle.std.proofs.Common.{slice_get, get_or, Option, Some, None, option_map,
 use Rattle.std.proofs.Common.{subst, inl, inr, arith}
 use Rattle.std.proofs.lemmas.List.Elements.{Contains-append_cases, Contains-append_right}
 use Rattle.cjc_range.specs.Span.{Span, full}
-use Rattle.cjc_intervals.specs.ClassFile.declared.tree.Catch.{Catch}
-use Rattle.cjc_types.specs.LowerBytecode.declared.insn.JInsn.{JInsn}
-use Rattle.cjc_types.specs.LowerBytecode.declared.insn.JOp.{JOp}
-use Rattle.cjc_types.specs.LowerBytecode.declared.insn.JOp.TheVariants as jop
+use Rattle.cjc_types.specs.ClassFile.declared.tree.Catch.{Catch}
+use Rattle.cjc_types.specs.Bytecode.declared.insn.JInsn.{JInsn}
+use Rattle.cjc_types.specs.Bytecode.declared.insn.JOp.{JOp}
+use Rattle.cjc_types.specs.Bytecode.declared.insn.JOp.TheVariants as jop
 use Rattle.cjc_fixpoint.specs.declared.flow.Edge.{Edge}
 use Rattle.cjc_fixpoint.specs.Kept.{handed, mark_of}
 use Rattle.cjc_fixpoint.specs.Shortened.{AreRepeats}

@@ -1,11 +1,11 @@
 //! The first number of a method that may not lie where its instruction needs it: by all of 601 to 609, or by some.
 
 ghost use Rattle.std.specs.Prelude.{◌≡◌, ◌<◌, Option, ℤ, List, length, option_map, IfOk, IfSome};
-ghost use Rattle.cjc_intervals.specs.Bytes.declared.fault.MemberId.{MemberId as Field};
-ghost use Rattle.cjc_intervals.specs.ClassFile.Code.{CodeTree};
-ghost use Rattle.cjc_intervals.specs.ClassFile.declared.tree.ClassTree.{ClassTree as ClassFile};
-ghost use Rattle.cjc_intervals.specs.ClassFile.declared.tree.MethodTree.{MethodTree as ClassMethod};
-ghost use Rattle.cjc_intervals.specs.World.Classes.{Class, all_classes};
+ghost use Rattle.cjc_fixpoint.specs.Bytes.declared.fault.MemberId.{MemberId as Field};
+ghost use Rattle.cjc_types.specs.ClassFile.Code.{CodeTree};
+ghost use Rattle.cjc_types.specs.ClassFile.declared.tree.ClassTree.{ClassTree as ClassFile};
+ghost use Rattle.cjc_types.specs.ClassFile.declared.tree.MethodTree.{MethodTree as ClassMethod};
+ghost use Rattle.cjc_types.specs.World.Classes.{Class, all_classes};
 ghost use Rattle.cjc_types.specs.Flow.{Body, body_of};
 ghost use Rattle.cjc_types.specs.Tables.{IsMethodOf, IsOfPackage, IsTypeTable, rows_of, state_of};
 ghost use Rattle.cjc_flow.specs.Constants.{AreNumbers, values_of};

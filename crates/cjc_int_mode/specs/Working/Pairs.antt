@@ -2,12 +2,12 @@
 use Rattle.std.specs.Prelude.{ℕ, max, Bool, true, false, List, [], ◌∷◌, Option, Some, None, option_and_then}
 use Rattle.std.specs.Prelude.{if◌then◌else◌}
 use Rattle.std.specs.List.{list_any}
-use Rattle.cjc_subset.specs.Bytecode.declared.insn.JInsn.{JInsn}
-use Rattle.cjc_subset.specs.Bytecode.declared.insn.JOp.{JOp}
-use Rattle.cjc_flow.specs.Types.declared.cell.Cell.{Cell}
-use Rattle.cjc_flow.specs.Types.declared.cell.Cell.TheVariants.{Number, Refs, Unusable}
-use Rattle.cjc_flow.specs.Types.declared.state.State.{State}
-use Rattle.cjc_flow.specs.Types.Search.{cells_of}
+use Rattle.cjc_flow.specs.Bytecode.declared.insn.JInsn.{JInsn}
+use Rattle.cjc_flow.specs.Bytecode.declared.insn.JOp.{JOp}
+use Rattle.cjc_flow.specs.LowerTypes.declared.cell.Cell.{Cell}
+use Rattle.cjc_flow.specs.LowerTypes.declared.cell.Cell.TheVariants.{Number, Refs, Unusable}
+use Rattle.cjc_flow.specs.LowerTypes.declared.state.State.{State}
+use Rattle.cjc_flow.specs.LowerTypes.Search.{cells_of}
 use Rattle.cjc_ncode.specs.IntCode.IntCode.{scratch_pairs_of}
 
 -- neither a number nor a reference

@@ -1,6 +1,6 @@
 -- Whether a value of one word stands before the last parameter, as the code looks for it.
 use Rattle.std.specs.Prelude.{Bool, true, false, List, [], ◌∷◌}
-use Rattle.cjc_ncode.specs.Script.Sorts.{Sort}
+use Rattle.cjc_ncode.specs.LowerScript.Sorts.{Sort}
 use Rattle.cjc_ncode.specs.IntCode.IntCode.{is_short}
 
 -- whether one stands in front of these, or before the last of these

@@ -1,6 +1,6 @@
 -- An index below a value of one word or two.
 use Rattle.std.specs.Prelude.{ℕ, ◌+◌, List, [], ◌∷◌, ◌++◌, Bool}
-use Rattle.cjc_ncode.specs.CapRead.Card as card
+use Rattle.cjc_int_mode.specs.CapRead.Card as card
 use Rattle.cjc_ncode.specs.declared.narrow.NInsn.{NInsn}
 use Rattle.cjc_ncode.specs.declared.narrow.NInsn.TheVariants.{Words}
 use Rattle.cjc_ncode.specs.IntCode.IntCode.{guard}

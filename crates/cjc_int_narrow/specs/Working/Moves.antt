@@ -1,9 +1,9 @@
 -- What is written for parameters one after the other, by the word at which the first is or goes.
 use Rattle.std.specs.Prelude.{ℕ, ◌+◌, List, [], ◌∷◌, ◌++◌, Option, Some, Bool, true, false, if◌then◌else◌}
 use Rattle.std.specs.List.{list_any}
-use Rattle.cjc_ncode.specs.CapRead.Card as card
-use Rattle.cjc_ncode.specs.Script.Sorts.{Sort, Int}
-use Rattle.cjc_ncode.specs.CardSemantics.Bytecode.Arguments.{width}
+use Rattle.cjc_int_mode.specs.CapRead.Card as card
+use Rattle.cjc_int_mode.specs.Script.Sorts.{Sort, Int}
+use Rattle.cjc_int_mode.specs.CardSemantics.Bytecode.Arguments.{width}
 use Rattle.cjc_ncode.specs.declared.narrow.NInsn.{NInsn}
 use Rattle.cjc_ncode.specs.declared.narrow.NInsn.TheVariants.{Op}
 use Rattle.cjc_ncode.specs.Written.{local}

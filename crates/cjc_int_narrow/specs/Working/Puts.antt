@@ -1,7 +1,7 @@
 -- Instructions that are written as in short mode, or nearly so.
 use Rattle.std.specs.Prelude.{Bool, true, false}
-use Rattle.cjc_ncode.specs.Bytecode.declared.insn.JOp.{JOp}
-use Rattle.cjc_ncode.specs.Bytecode.declared.insn.JOp.TheVariants as jop
+use Rattle.cjc_int_mode.specs.Bytecode.declared.insn.JOp.{JOp}
+use Rattle.cjc_int_mode.specs.Bytecode.declared.insn.JOp.TheVariants as jop
 
 -- those that see no number
 abbrev pub is_same : JOp → Bool

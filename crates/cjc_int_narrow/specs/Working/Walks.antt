@@ -1,7 +1,7 @@
 -- What is written for instructions one after the other.
 use Rattle.std.specs.Prelude.{ℕ, ◌+◌, max, List, [], ◌∷◌, Option, Some, None, length, replicate, sum_by}
-use Rattle.cjc_ncode.specs.Bytecode.declared.insn.JInsn.{JInsn}
-use Rattle.cjc_ncode.specs.Bytecode.declared.insn.JOp.{JOp}
+use Rattle.cjc_int_mode.specs.Bytecode.declared.insn.JInsn.{JInsn}
+use Rattle.cjc_int_mode.specs.Bytecode.declared.insn.JOp.{JOp}
 use Rattle.cjc_ncode.specs.declared.narrow.NInsn.{NInsn}
 use Rattle.cjc_ncode.specs.Written.{Resolution}
 use Rattle.cjc_ncode.specs.IntCode.IntCode.{Frame, Reached, scratch_pairs_of, widest, written}

@@ -9,17 +9,17 @@ use Rattle.std.proofs.lemmas.Option.{slice_get-get_or, slice_get-map}
 use Rattle.std.proofs.lemmas.Slice.Eq.{bytes_eq-Decides}
 use Rattle.cjc_bytes.specs.AccessFlags.{is_static, is_final}
 use Rattle.cjc_bytes.specs.Spots.{after, bad_at, desc_of, parts_of, types_from}
-use Rattle.cjc_narrow.specs.JvmSemantics.OnePackage.{constant_at, constant_in, exported_constant}
-use Rattle.cjc_vtable.specs.ClassFile.declared.tree.ClassTree.{ClassTree}
-use Rattle.cjc_vtable.specs.ClassFile.declared.tree.FieldTree.{FieldTree}
-use Rattle.cjc_vtable.specs.ExportFile.Members.{is_constant_type, may_be_constant}
-use Rattle.cjc_vtable.specs.ExportFile.declared.tree.ExportClass.{ExportClass}
-use Rattle.cjc_vtable.specs.ExportFile.declared.tree.ExportField.{ExportField}
-use Rattle.cjc_vtable.specs.ExportFile.declared.tree.ExportTree.{ExportTree}
+use Rattle.cjc_narrow.specs.LowerJvmSemantics.OnePackage.{constant_at, constant_in, exported_constant}
+use Rattle.cjc_world.specs.ClassFile.declared.tree.ClassTree.{ClassTree}
+use Rattle.cjc_world.specs.ClassFile.declared.tree.FieldTree.{FieldTree}
+use Rattle.cjc_world.specs.ExportFile.Members.{is_constant_type, may_be_constant}
+use Rattle.cjc_world.specs.ExportFile.declared.tree.ExportClass.{ExportClass}
+use Rattle.cjc_world.specs.ExportFile.declared.tree.ExportField.{ExportField}
+use Rattle.cjc_world.specs.ExportFile.declared.tree.ExportTree.{ExportTree}
 use Rattle.cjc_flow.specs.Constants.{AreNumbers}
-use Rattle.cjc_vtable.specs.Subset.Members.{imports}
-use Rattle.cjc_flow.specs.Types.Rules.{is_number}
-use Rattle.cjc_flow.specs.Types.Types.{parts, value_of}
+use Rattle.cjc_clinit.specs.Subset.Members.{imports}
+use Rattle.cjc_narrow.specs.Types.Rules.{is_number}
+use Rattle.cjc_narrow.specs.Types.Types.{parts, value_of}
 use Rattle.cjc_vtable.proofs.Filed.{IsFiled, in_class_file, in_export_file, filed}
 use Rattle.cjc_world.specs.Classes.{Class, Member, all_classes, class_named, field_of_class, field_of_export}
 use Rattle.cjc_world.specs.Files.{Files}

@@ -3,16 +3,16 @@ use Rattle.std.proofs.Common.{◌≡◌, ℕ, refl, List}
 use Rattle.std.specs.Prelude.{◌/◌}
 use Rattle.cjc_bytes.specs.Descriptor.{Part}
 use Rattle.cjc_bytes.specs.declared.breaks.BrokenAt.{BrokenAt}
-use Rattle.cjc_vtable.specs.Bytecode.declared.insn.JOp.{JOp}
-use Rattle.cjc_vtable.specs.Range.Span.{Span}
-use Rattle.cjc_flow.specs.Intervals.Bounds.{Bounds, IsBoundOf, a_short, a_byte, a_boolean, a_comparison}
-use Rattle.cjc_flow.specs.Intervals.Bounds.{a_division}
-use Rattle.cjc_flow.specs.Intervals.Bounds.{a_shift}
-use Rattle.cjc_flow.specs.Intervals.Bounds.{a_table, a_lookup, a_count, a_reference_count, a_load, a_store}
-use Rattle.cjc_flow.specs.Intervals.Bounds.{a_static_field}
-use Rattle.cjc_flow.specs.Intervals.Bounds.{a_field, an_argument, a_result, a_boolean_element}
-use Rattle.cjc_flow.specs.Types.declared.cell.Cell.{Cell}
-use Rattle.cjc_flow.specs.Types.Flow.{Body}
+use Rattle.cjc_clinit.specs.Bytecode.declared.insn.JOp.{JOp}
+use Rattle.cjc_flow.specs.Range.Span.{Span}
+use Rattle.cjc_flow.specs.LowerIntervals.Bounds.{Bounds, IsBoundOf, a_short, a_byte, a_boolean, a_comparison}
+use Rattle.cjc_flow.specs.LowerIntervals.Bounds.{a_division}
+use Rattle.cjc_flow.specs.LowerIntervals.Bounds.{a_shift}
+use Rattle.cjc_flow.specs.LowerIntervals.Bounds.{a_table, a_lookup, a_count, a_reference_count, a_load, a_store}
+use Rattle.cjc_flow.specs.LowerIntervals.Bounds.{a_static_field}
+use Rattle.cjc_flow.specs.LowerIntervals.Bounds.{a_field, an_argument, a_result, a_boolean_element}
+use Rattle.cjc_narrow.specs.Types.declared.cell.Cell.{Cell}
+use Rattle.cjc_narrow.specs.Types.Flow.{Body}
 use Rattle.cjc_world.specs.Files.{Files}
 use Rattle.cjc_judge.specs.OutOfRange.{IsOutOfRange}
 

@@ -3,14 +3,14 @@ use Rattle.std.proofs.Common.{◌≡◌, ◌⊎◌, inl, inr, ◌<◌, ◌≤◌
 use Rattle.std.proofs.Common.{Ok, Err, IfOk, arith}
 use Rattle.std.specs.Prelude.{IfSome, slice_get}
 use Rattle.cjc_bytes.specs.declared.breaks.BrokenAt.{BrokenAt}
-use Rattle.cjc_vtable.specs.Bytecode.declared.insn.JInsn.{JInsn}
-use Rattle.cjc_flow.specs.Types.declared.state.State.{State}
-use Rattle.cjc_flow.specs.Types.declared.table.TypeTable.{TypeTable}
-use Rattle.cjc_flow.specs.Types.Flow.{Body}
-use Rattle.cjc_flow.specs.Types.Tables.{IsTypeTable, rows_of}
+use Rattle.cjc_clinit.specs.Bytecode.declared.insn.JInsn.{JInsn}
+use Rattle.cjc_narrow.specs.Types.declared.state.State.{State}
+use Rattle.cjc_narrow.specs.Types.declared.table.TypeTable.{TypeTable}
+use Rattle.cjc_narrow.specs.Types.Flow.{Body}
+use Rattle.cjc_narrow.specs.Types.Tables.{IsTypeTable, rows_of}
 use Rattle.cjc_flow.proofs.TypesLeast.{one_least}
-use Rattle.cjc_flow.specs.Intervals.Frames.{RangeState}
-use Rattle.cjc_flow.specs.Intervals.Tables.{IsLeastRanges}
+use Rattle.cjc_flow.specs.LowerIntervals.Frames.{RangeState}
+use Rattle.cjc_flow.specs.LowerIntervals.Tables.{IsLeastRanges}
 use Rattle.cjc_flow.specs.Tables.{IsRangeTable, ranges_of}
 use Rattle.cjc_flow.specs.Tests.Answers.{IsFirstBroken, IsFound}
 use Rattle.cjc_world.specs.Classes.{all_classes}

@@ -5,14 +5,14 @@ use Rattle.std.specs.Prelude.{slice_get}
 use Rattle.std.specs.List.{AllZip}
 use Rattle.std.proofs.lemmas.Option.{slice_get_within, slice_get-get_or}
 use Rattle.cjc_bytes.specs.declared.fault.MemberId.{MemberId}
-use Rattle.cjc_flow.specs.Fixpoint.Dataflow.{Dataflow}
-use Rattle.cjc_flow.specs.Fixpoint.Tables.{HasRow, IsLeastClosed}
-use Rattle.cjc_vtable.specs.Range.Span.{Span, Within}
-use Rattle.cjc_flow.specs.Types.declared.state.State.{State}
-use Rattle.cjc_flow.specs.Types.Flow.{Body}
-use Rattle.cjc_flow.specs.Intervals.Flow.{range_flow}
-use Rattle.cjc_flow.specs.Intervals.Frames.{StackOf, Cells, Clash, IsStackBelow, RangeState, spans, states}
-use Rattle.cjc_flow.specs.Intervals.Tables.{IsLeastRanges}
+use Rattle.cjc_vtable.specs.Fixpoint.Dataflow.{Dataflow}
+use Rattle.cjc_vtable.specs.Fixpoint.Tables.{HasRow, IsLeastClosed}
+use Rattle.cjc_flow.specs.Range.Span.{Span, Within}
+use Rattle.cjc_narrow.specs.Types.declared.state.State.{State}
+use Rattle.cjc_narrow.specs.Types.Flow.{Body}
+use Rattle.cjc_flow.specs.LowerIntervals.Flow.{range_flow}
+use Rattle.cjc_flow.specs.LowerIntervals.Frames.{StackOf, Cells, Clash, IsStackBelow, RangeState, spans, states}
+use Rattle.cjc_flow.specs.LowerIntervals.Tables.{IsLeastRanges}
 use Rattle.cjc_flow.proofs.RangeOrder.{within_both}
 
 -- ---- of any flow in whose order no two states are below one another

@@ -1,12 +1,12 @@
 -- What a world breaks of each group, and which types are kept.
 use Rattle.std.specs.Prelude.{◌≡◌, ◌⊎◌, true, List, [], ◌∷◌, ◌++◌}
 use Rattle.std.specs.List.{list_any}
-use Rattle.cjc_vtable.specs.Bytecode.declared.method_code.MethodCode.{MethodCode}
+use Rattle.cjc_clinit.specs.Bytecode.declared.method_code.MethodCode.{MethodCode}
 use Rattle.cjc_list.specs.Listed.{ListTree}
-use Rattle.cjc_vtable.specs.Subset.Checks.{check_breaks}
+use Rattle.cjc_clinit.specs.Subset.Checks.{check_breaks}
 use Rattle.cjc_clinit.specs.Rules.{BreaksImage}
-use Rattle.cjc_flow.specs.Types.declared.table.TypeTable.{TypeTable}
-use Rattle.cjc_vtable.specs.Tokens.Rules.{tested_breaks}
+use Rattle.cjc_narrow.specs.Types.declared.table.TypeTable.{TypeTable}
+use Rattle.cjc_vtable.specs.LowerTokens.Rules.{tested_breaks}
 use Rattle.cjc_world.specs.Files.{Files}
 use Rattle.cjc_bytes.specs.Breaks.{Break, Among}
 use Rattle.cjc_judge.specs.declared.groups.Group.{Group}

@@ -4,10 +4,10 @@ use Rattle.cjc_bytes.specs.declared.fault.Fault.{Fault}
 use Rattle.cjc_bytes.specs.declared.fault.Fault.TheVariants as faults
 use Rattle.cjc_bytes.specs.declared.fault.Refusal.{Refusal}
 use Rattle.cjc_bytes.specs.declared.settings.FileLine.{FileLine}
-use Rattle.cjc_vtable.specs.ClassFile.declared.tree.ClassTree.{ClassTree}
-use Rattle.cjc_vtable.specs.Bytecode.Decoded.{decoding_at, refusal_of as code_refusal_of}
-use Rattle.cjc_vtable.specs.Bytecode.declared.method_code.MethodCode.{MethodCode}
-use Rattle.cjc_vtable.specs.Bytecode.PackageCodes.{code_with, of_methods, all_codes}
+use Rattle.cjc_world.specs.ClassFile.declared.tree.ClassTree.{ClassTree}
+use Rattle.cjc_clinit.specs.Bytecode.Decoded.{decoding_at, refusal_of as code_refusal_of}
+use Rattle.cjc_clinit.specs.Bytecode.declared.method_code.MethodCode.{MethodCode}
+use Rattle.cjc_clinit.specs.Bytecode.PackageCodes.{code_with, of_methods, all_codes}
 use Rattle.cjc_judge.specs.Codes.{unsupported_with, all_unsupported_insns}
 use Rattle.cjc_judge.specs.Rules.{CodeBreaks, FileBreach, file_refusal, file_rank, BreaksFile, IsFirstRefused}
 use Rattle.cjc_judge.specs.Spelt.{FileTree, of_class, of_export, classes_of, exports_of}

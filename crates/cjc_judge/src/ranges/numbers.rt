@@ -2,12 +2,12 @@
 
 ghost use Rattle.std.specs.Prelude.{◌≡◌, Some, IfOk, IfSome};
 ghost use Rattle.cjc_bytes.specs.declared.breaks.BrokenAt.{BrokenAt as Broken};
-ghost use Rattle.cjc_vtable.specs.ClassFile.Code.{CodeTree};
-ghost use Rattle.cjc_vtable.specs.ClassFile.declared.tree.ClassTree.{ClassTree as ClassFile};
-ghost use Rattle.cjc_vtable.specs.ClassFile.declared.tree.MethodTree.{MethodTree as ClassMethod};
+ghost use Rattle.cjc_world.specs.ClassFile.Code.{CodeTree};
+ghost use Rattle.cjc_world.specs.ClassFile.declared.tree.ClassTree.{ClassTree as ClassFile};
+ghost use Rattle.cjc_world.specs.ClassFile.declared.tree.MethodTree.{MethodTree as ClassMethod};
 ghost use Rattle.cjc_world.specs.Classes.{all_classes};
-ghost use Rattle.cjc_flow.specs.Types.Flow.{body_of};
-ghost use Rattle.cjc_flow.specs.Types.Tables.{IsMethodOf, IsOfPackage, IsTypeTable, rows_of};
+ghost use Rattle.cjc_narrow.specs.Types.Flow.{body_of};
+ghost use Rattle.cjc_narrow.specs.Types.Tables.{IsMethodOf, IsOfPackage, IsTypeTable, rows_of};
 ghost use Rattle.cjc_flow.specs.Constants.{values_of};
 ghost use Rattle.cjc_judge.specs.OutOfRange.{constants_of, IsOutOfRange};
 

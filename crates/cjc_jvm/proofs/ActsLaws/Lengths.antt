@@ -1,8 +1,8 @@
 -- Lists of unlike lengths, and types by their places.
 use Rattle.std.proofs.Common.{◌≡◌, ℕ, suc, List, [], ◌∷◌, length, Bool, false, refl, ap, ◌∙◌}
 use Rattle.std.specs.Prelude.{◌≢◌, ◌&&◌}
-use Rattle.cjc_jvm_semantics.specs.Script.declared.value.Value.{Value}
-use Rattle.cjc_jvm_semantics.specs.Script.Sorts.{Sort, Shape, fits, all_fit}
+use Rattle.cjc_jvm_step.specs.Script.declared.value.Value.{Value}
+use Rattle.cjc_jvm_step.specs.Script.Sorts.{Sort, Shape, fits, all_fit}
 use Rattle.cjc_jvm_semantics.specs.Machine.{is_of_sort, are_of_sorts}
 use Rattle.cjc_jvm_semantics.proofs.BytesBools.{and_false}
 

@@ -1,8 +1,8 @@
 -- The types of parameters, one after the other.
 use Rattle.std.proofs.Common.{◌≡◌, ℕ, ◌+◌, ◌<◌, List, [], ◌∷◌, ◌++◌, length, map, take, sym, ap, ◌∙◌, arith}
 use Rattle.std.proofs.lemmas.List.{get_or_append_left, get_or-map, length-map, map_push, take_more}
-use Rattle.cjc_jvm_semantics.specs.Bytes.Descriptor.{Parts, part_at}
-use Rattle.cjc_jvm_semantics.specs.Script.Sorts.{sort_of}
+use Rattle.cjc_jvm_semantics.specs.LowerBytes.Descriptor.{Parts, part_at}
+use Rattle.cjc_jvm_step.specs.Script.Sorts.{sort_of}
 use Rattle.cjc_jvm.specs.declared.acts.sort.Sort.{Sort}
 use Rattle.cjc_jvm.specs.Acts.Meant.{sort_meant}
 

@@ -1,9 +1,9 @@
 -- Nothing is put into what is no array.
 use Rattle.std.proofs.Common.{◌≡◌, ℕ, ℤ, List, refl}
 use Rattle.std.specs.Prelude.{Some, None}
-use Rattle.cjc_jvm_semantics.specs.Script.declared.value.Value.{Value}
-use Rattle.cjc_jvm_semantics.specs.Script.declared.report.Thing.{Thing}
-use Rattle.cjc_jvm_semantics.specs.Script.declared.report.Thing.TheVariants.{Array, Object}
+use Rattle.cjc_jvm_step.specs.Script.declared.value.Value.{Value}
+use Rattle.cjc_jvm_step.specs.Script.declared.report.Thing.{Thing}
+use Rattle.cjc_jvm_step.specs.Script.declared.report.Thing.TheVariants.{Array, Object}
 use Rattle.cjc_jvm_semantics.specs.Linked.{Linked}
 use Rattle.cjc_jvm_semantics.specs.Effects.{Effect, Toss, Stick, array_in}
 use Rattle.cjc_jvm_semantics.specs.Machine.{put_in}

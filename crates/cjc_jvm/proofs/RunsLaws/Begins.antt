@@ -1,11 +1,11 @@
 -- The next entry of a script, after its acts.
 use Rattle.std.proofs.Common.{◌≡◌, ℕ, List, [], ◌∷◌, sym, ap, ◌∙◌, Bool, true, false}
 use Rattle.std.specs.Prelude.{Option, if◌then◌else◌}
-use Rattle.cjc_jvm_semantics.specs.Script.declared.script.Entry.{Entry}
-use Rattle.cjc_jvm_semantics.specs.Script.declared.report.Outcome.TheVariants.{Unfit}
-use Rattle.cjc_jvm_semantics.specs.Script.declared.report.Thing.{Thing}
-use Rattle.cjc_jvm_semantics.specs.Script.Sorts.{signature_of}
-use Rattle.cjc_jvm_semantics.specs.CardSemantics.Bytecode.Runs.{Move, Over}
+use Rattle.cjc_jvm_step.specs.Script.declared.script.Entry.{Entry}
+use Rattle.cjc_jvm_step.specs.Script.declared.report.Outcome.TheVariants.{Unfit}
+use Rattle.cjc_jvm_step.specs.Script.declared.report.Thing.{Thing}
+use Rattle.cjc_jvm_step.specs.Script.Sorts.{signature_of}
+use Rattle.cjc_jvm_step.specs.CardSemantics.Bytecode.Runs.{Move, Over}
 use Rattle.cjc_jvm_semantics.specs.Linked.{Linked, Method}
 use Rattle.cjc_jvm_semantics.specs.Machine.{State, report, heap_of, with_heap, after_acts, args_fit, begins}
 use Rattle.cjc_jvm_semantics.specs.Machine.{entry_begins, entry_method}

@@ -1,8 +1,8 @@
 -- An instruction that has followed its row, as the machine goes on from it.
 use Rattle.std.proofs.Common.{◌≡◌, ℕ, ◌+◌, ◌<◌, ◌≤◌, List, ◌∷◌, length, refl, sym, ap, subst, ◌∙◌, arith}
 use Rattle.std.specs.Prelude.{Option, Some, slice_get}
-use Rattle.cjc_jvm_semantics.specs.Bytecode.declared.insn.JInsn.{JInsn}
-use Rattle.cjc_jvm_semantics.specs.CardSemantics.Bytecode.Runs.{Move, On}
+use Rattle.cjc_jvm_step.specs.Bytecode.declared.insn.JInsn.{JInsn}
+use Rattle.cjc_jvm_step.specs.CardSemantics.Bytecode.Runs.{Move, On}
 use Rattle.cjc_jvm_semantics.specs.Linked.{Linked}
 use Rattle.cjc_jvm_semantics.specs.Effects.{Effect, Store, effect}
 use Rattle.cjc_jvm_semantics.specs.Machine.{Frame, State, after_athrow, after_effect, after_fault, after_fetch}

@@ -1,8 +1,8 @@
 -- Turns, as the loop over them sees them.
 use Rattle.std.proofs.Common.{◌≡◌, ℕ, suc, ◌+◌, ◌-◌, ◌<◌, ap, ◌∙◌, arith}
-use Rattle.cjc_jvm_semantics.specs.Script.declared.report.Report.{Report}
-use Rattle.cjc_jvm_semantics.specs.CardSemantics.Bytecode.Runs
-use Rattle.cjc_jvm_semantics.specs.CardSemantics.Bytecode.Runs.{Device, On, Over, after}
+use Rattle.cjc_jvm_step.specs.Script.declared.report.Report.{Report}
+use Rattle.cjc_jvm_step.specs.CardSemantics.Bytecode.Runs
+use Rattle.cjc_jvm_step.specs.CardSemantics.Bytecode.Runs.{Device, On, Over, after}
 
 -- a turn that goes on
 pub run_on : {S : Type 0} (d : Device S) (n i : ℕ) (s t : S) → i < n → d.move s ≡ On t → Runs.run d (n - i) s

@@ -2,9 +2,9 @@
 use Rattle.std.proofs.Common.{◌≡◌, ℕ, ◌+◌, refl, sym, add-zero, ap, ◌∙◌, Bool, true, false}
 use Rattle.std.specs.Prelude.{if◌then◌else◌}
 use mir.Val.{bool_byte}
-use Rattle.cjc_jvm_semantics.specs.Script.declared.report.Outcome.{Outcome}
-use Rattle.cjc_jvm_semantics.specs.Script.declared.report.Report.{Report}
-use Rattle.cjc_jvm_semantics.specs.CardSemantics.Bytecode.Runs.{Move, Over}
+use Rattle.cjc_jvm_step.specs.Script.declared.report.Outcome.{Outcome}
+use Rattle.cjc_jvm_step.specs.Script.declared.report.Report.{Report}
+use Rattle.cjc_jvm_step.specs.CardSemantics.Bytecode.Runs.{Move, Over}
 use Rattle.cjc_jvm_semantics.specs.Linked.{Linked}
 use Rattle.cjc_jvm_semantics.specs.Machine.{State, report, spend, spend_unless_stuck}
 

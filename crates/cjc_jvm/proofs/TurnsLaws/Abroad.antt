@@ -1,11 +1,11 @@
 -- Imported calls and their answers.
 use Rattle.std.proofs.Common.{◌≡◌, ℕ, List, ◌∷◌, ap, ◌∙◌, Bool}
 use Rattle.std.specs.Prelude.{Option, if◌then◌else◌}
-use Rattle.cjc_jvm_semantics.specs.Script.declared.script.Answer.{Answer}
-use Rattle.cjc_jvm_semantics.specs.Script.declared.report.Outcome.TheVariants.{Unfit}
-use Rattle.cjc_jvm_semantics.specs.Script.declared.report.Thing.{Thing}
-use Rattle.cjc_jvm_semantics.specs.Script.Sorts.{Sort}
-use Rattle.cjc_jvm_semantics.specs.CardSemantics.Bytecode.Runs.{Move, Over}
+use Rattle.cjc_jvm_step.specs.Script.declared.script.Answer.{Answer}
+use Rattle.cjc_jvm_step.specs.Script.declared.report.Outcome.TheVariants.{Unfit}
+use Rattle.cjc_jvm_step.specs.Script.declared.report.Thing.{Thing}
+use Rattle.cjc_jvm_step.specs.Script.Sorts.{Sort}
+use Rattle.cjc_jvm_step.specs.CardSemantics.Bytecode.Runs.{Move, Over}
 use Rattle.cjc_jvm_semantics.specs.Linked.{Linked}
 use Rattle.cjc_jvm_semantics.specs.Machine.{Frame, State, report, heap_of, with_heap, after_acts, after_answer}
 use Rattle.cjc_jvm_semantics.specs.Machine.{after_reply}

@@ -1,6 +1,6 @@
 -- A move that is another.
 use Rattle.std.proofs.Common.{◌≡◌, sym, subst}
-use Rattle.cjc_jvm_semantics.specs.CardSemantics.Bytecode.Runs.{Move}
+use Rattle.cjc_jvm_step.specs.CardSemantics.Bytecode.Runs.{Move}
 use Rattle.cjc_jvm_semantics.specs.Machine.{State}
 use Rattle.cjc_jvm.specs.declared.turns.after.After.{After}
 use Rattle.cjc_jvm.specs.States.{Leads}

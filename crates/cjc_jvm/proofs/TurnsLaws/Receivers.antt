@@ -2,10 +2,10 @@
 use Rattle.std.proofs.Common.{◌≡◌, ℕ, ◌<◌, List, [], ◌∷◌, length, take, reverse, refl, sym, ap, ◌∙◌, false, arith}
 use Rattle.std.proofs.lemmas.List.{length-reverse, length-take}
 use Rattle.std.specs.Prelude.{◌≢◌, Option, Some, None, option_map}
-use Rattle.cjc_jvm_semantics.specs.Bytes.declared.fault.MemberId.{MemberId}
-use Rattle.cjc_jvm_semantics.specs.Script.declared.value.Value.{Value}
-use Rattle.cjc_jvm_semantics.specs.Script.declared.report.Thing.{Thing}
-use Rattle.cjc_jvm_semantics.specs.Script.Sorts.{Sort}
+use Rattle.cjc_jvm_semantics.specs.LowerBytes.declared.fault.MemberId.{MemberId}
+use Rattle.cjc_jvm_step.specs.Script.declared.value.Value.{Value}
+use Rattle.cjc_jvm_step.specs.Script.declared.report.Thing.{Thing}
+use Rattle.cjc_jvm_step.specs.Script.Sorts.{Sort}
 use Rattle.cjc_jvm_semantics.specs.Linked
 use Rattle.cjc_jvm_semantics.specs.Linked.{Linked, Callee, OnClass, OnObject}
 use Rattle.cjc_jvm_semantics.specs.Effects.{Effect, Toss, Stick, type_of, one_value}

@@ -1,9 +1,9 @@
 -- What is thrown.
 use Rattle.std.proofs.Common.{◌≡◌, ℕ, List, [], refl, sym, ap, subst, ◌∙◌, ◌∷◌, ◌++◌, length}
 use Rattle.std.specs.Prelude.{Option, Some, None, option_map}
-use Rattle.cjc_jvm_semantics.specs.Script.declared.report.Note.{Note}
-use Rattle.cjc_jvm_semantics.specs.Script.declared.report.Thing.{Thing}
-use Rattle.cjc_jvm_semantics.specs.Script.declared.report.Thing.TheVariants.{Object}
+use Rattle.cjc_jvm_step.specs.Script.declared.report.Note.{Note}
+use Rattle.cjc_jvm_step.specs.Script.declared.report.Thing.{Thing}
+use Rattle.cjc_jvm_step.specs.Script.declared.report.Thing.TheVariants.{Object}
 use Rattle.cjc_jvm_semantics.specs.Linked.{Linked}
 use Rattle.cjc_jvm_semantics.specs.Effects.{type_of}
 use Rattle.cjc_jvm_semantics.specs.Machine.{Frame, State, heap_of, offset, stuck_at, with_heap, with_last, after_raise}

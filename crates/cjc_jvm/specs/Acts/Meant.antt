@@ -1,7 +1,7 @@
 -- The types of values and of methods, as they are kept, in the definition's terms.
 use Rattle.std.specs.Prelude.{List, Option, option_map, map}
-use Rattle.cjc_jvm_semantics.specs.Script.Sorts
-use Rattle.cjc_jvm_semantics.specs.Script.Sorts.{Signature}
+use Rattle.cjc_jvm_step.specs.Script.Sorts
+use Rattle.cjc_jvm_step.specs.Script.Sorts.{Signature}
 use Rattle.cjc_jvm_step.specs.Step.Names.{shape_meant}
 use Rattle.cjc_jvm.specs.declared.acts.sort.Sort.{Sort}
 use Rattle.cjc_jvm.specs.declared.acts.sort.Sort.TheVariants.{Boolean, Byte, Short, Int, Reference, NoValue}

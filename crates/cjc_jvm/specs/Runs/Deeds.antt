@@ -1,6 +1,6 @@
 -- What is left to do of an instruction that has changed its frame and the store.
 use Rattle.std.specs.Prelude.{ℕ, ◌+◌, ◌<◌, List, ◌∷◌, length, slice_get}
-use Rattle.cjc_jvm_semantics.specs.CardSemantics.Bytecode.Runs.{Move, On}
+use Rattle.cjc_jvm_step.specs.CardSemantics.Bytecode.Runs.{Move, On}
 use Rattle.cjc_jvm_semantics.specs.Linked.{Linked}
 use Rattle.cjc_jvm_semantics.specs.Machine.{Frame, State, after_athrow, after_fault, after_lookup, after_return}
 use Rattle.cjc_jvm_semantics.specs.Machine.{heap_of, holder_of, offset, stuck_at, with_frames}

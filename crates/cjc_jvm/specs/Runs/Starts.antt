@@ -1,6 +1,6 @@
 -- What the next entry of a script leaves.
 use Rattle.std.specs.Prelude.{◌≡◌, [], ◌∷◌}
-use Rattle.cjc_jvm_semantics.specs.CardSemantics.Bytecode.Runs.{Move, On, Over}
+use Rattle.cjc_jvm_step.specs.CardSemantics.Bytecode.Runs.{Move, On, Over}
 use Rattle.cjc_jvm_semantics.specs.Machine.{State, report}
 use Rattle.cjc_jvm.specs.declared.runs.entries.Begun.{Begun}
 use Rattle.cjc_jvm.specs.declared.runs.entries.Begun.TheVariants.{Frame, Ended}

@@ -3,10 +3,10 @@
 
 ghost use Rattle.std.specs.Prelude.{◌≡◌, ◌<◌, ◌+◌, ◌≤◌, ◌≤ℤ◌, ℕ, pos, unsigned_abs, Some, None, true, false, length};
 ghost use Rattle.std.specs.Prelude.{slice_set, option_map, IfOk, OnOk, if◌then◌else◌};
-ghost use Rattle.cjc_jvm_semantics.specs.Script.declared.script.Act.TheVariants as acts;
-ghost use Rattle.cjc_jvm_semantics.specs.Script.declared.report.Outcome.TheVariants.{Unfit};
-ghost use Rattle.cjc_jvm_semantics.specs.Script.declared.report.Thing.TheVariants as things;
-ghost use Rattle.cjc_jvm_semantics.specs.CardSemantics.Bytecode.Runs.{Move, Over};
+ghost use Rattle.cjc_jvm_step.specs.Script.declared.script.Act.TheVariants as acts;
+ghost use Rattle.cjc_jvm_step.specs.Script.declared.report.Outcome.TheVariants.{Unfit};
+ghost use Rattle.cjc_jvm_step.specs.Script.declared.report.Thing.TheVariants as things;
+ghost use Rattle.cjc_jvm_step.specs.CardSemantics.Bytecode.Runs.{Move, Over};
 ghost use Rattle.cjc_jvm_semantics.specs.Machine.{State, item_sort, heap_after_act, after_acts, with_heap, report};
 ghost use Rattle.cjc_jvm_step.specs.Heap.Kinds.{shape_of};
 ghost use Rattle.cjc_jvm_step.specs.Heap.Looks.{name_at, items_at};

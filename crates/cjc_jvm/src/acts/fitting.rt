@@ -2,9 +2,9 @@
 //! arguments of a call in code only whether they are numbers and references where it wants them.
 
 ghost use Rattle.std.specs.Prelude.{◌≡◌, List, None, option_map, map, IfOk};
-ghost use Rattle.cjc_jvm_semantics.specs.Script.declared.report.Thing.{Thing};
+ghost use Rattle.cjc_jvm_step.specs.Script.declared.report.Thing.{Thing};
 ghost use Rattle.cjc_jvm_semantics.specs.Linked.{Linked};
-ghost use Rattle.cjc_jvm_semantics.specs.Script.Sorts.{shape_name, fits, all_fit, result_fits};
+ghost use Rattle.cjc_jvm_step.specs.Script.Sorts.{shape_name, fits, all_fit, result_fits};
 ghost use Rattle.cjc_jvm_semantics.specs.Machine.{is_of_sort, are_of_sorts, object_fits};
 ghost use Rattle.cjc_jvm_step.specs.Step.Names.{shape_meant};
 ghost use Rattle.cjc_jvm.specs.Acts.Meant.{sort_meant};

@@ -1,7 +1,7 @@
 //! The types of a method's parameters and of its result, parsed from its descriptor once for a call.
 
 ghost use Rattle.std.specs.Prelude.{◌≡◌, ◌≤◌, map, length, option_map, IfOk};
-ghost use Rattle.cjc_jvm_semantics.specs.Script.Sorts.{sort_of, signature_of, result_by};
+ghost use Rattle.cjc_jvm_step.specs.Script.Sorts.{sort_of, signature_of, result_by};
 ghost use Rattle.cjc_jvm.specs.Acts.Meant.{sort_meant};
 
 use crate::acts::sort::{Sort, sort_at};
@@ -20,7 +20,7 @@ pub struct Signature<'a> {
 }
 
 impl<'a> Model for Signature<'a> {
-    ghost use Rattle.cjc_jvm_semantics.specs.Script.Sorts.{Signature as Types};
+    ghost use Rattle.cjc_jvm_step.specs.Script.Sorts.{Signature as Types};
     ghost use Rattle.cjc_jvm.specs.Acts.Meant.{signature_with};
 
     ghost Value = { Types };

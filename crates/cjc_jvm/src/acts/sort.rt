@@ -2,8 +2,8 @@
 //! each holds at first. It asks no look-up and no heap.
 
 ghost use Rattle.std.specs.Prelude.{◌≡◌, ◌≤◌, length, option_map, IfOk};
-ghost use Rattle.cjc_jvm_semantics.specs.Bytes.Descriptor.{part_at};
-ghost use Rattle.cjc_jvm_semantics.specs.Script.Sorts.{sort_of, sort_by, element_sort, zero_of};
+ghost use Rattle.cjc_jvm_semantics.specs.LowerBytes.Descriptor.{part_at};
+ghost use Rattle.cjc_jvm_step.specs.Script.Sorts.{sort_of, sort_by, element_sort, zero_of};
 ghost use Rattle.cjc_jvm_step.specs.Heap.Kinds.{elements_of};
 ghost use Rattle.cjc_jvm.specs.Acts.Meant.{sort_meant};
 

@@ -2,7 +2,7 @@
 //! its descriptor, and a frame is made of these.
 
 ghost use Rattle.std.specs.Prelude.{◌≡◌, ◌≤◌, [], option_map, IfOk, OnOk};
-ghost use Rattle.cjc_jvm_semantics.specs.Script.Sorts.{signature_of};
+ghost use Rattle.cjc_jvm_step.specs.Script.Sorts.{signature_of};
 ghost use Rattle.cjc_jvm_semantics.specs.Linked.{Linked};
 ghost use Rattle.cjc_jvm_semantics.specs.Machine.{entry_method, args_fit, arguments, sent_on, begins};
 ghost use Rattle.cjc_jvm.specs.States.{objects_at_most};

@@ -2,7 +2,7 @@
 //! many, and the report of where it is then. What the crate is called for.
 
 ghost use Rattle.std.specs.Prelude.{◌≡◌, ◌<◌, ◌≤◌, ◌+◌, ◌^◌, length, IfOk, OnOk};
-ghost use Rattle.cjc_jvm_semantics.specs.CardSemantics.Bytecode.Runs;
+ghost use Rattle.cjc_jvm_step.specs.CardSemantics.Bytecode.Runs;
 ghost use Rattle.cjc_jvm_semantics.specs.Linked.{Linked};
 ghost use Rattle.cjc_jvm_semantics.specs.Machine.{move, idle, device, report, start, run};
 ghost use Rattle.cjc_jvm.specs.States.{Leads, frames_of, with_frame, objects_at_most};

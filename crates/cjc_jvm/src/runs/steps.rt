@@ -2,7 +2,7 @@
 //! `runs`, which does not look into instructions.
 
 ghost use Rattle.std.specs.Prelude.{◌≡◌, ◌<◌, ◌≤◌, ◌+◌, ◌^◌, ◌∷◌, List, length, slice_get, IfOk, OnOk, if◌then◌else◌};
-ghost use Rattle.cjc_jvm_semantics.specs.Script.declared.report.Report.{Report};
+ghost use Rattle.cjc_jvm_step.specs.Script.declared.report.Report.{Report};
 ghost use Rattle.cjc_jvm_semantics.specs.Linked.{Linked};
 ghost use Rattle.cjc_jvm_semantics.specs.Effects.{effect};
 ghost use Rattle.cjc_jvm_semantics.specs.Machine.{Frame, after_effect, after_fetch, spend_unless_stuck, step};

@@ -4,7 +4,7 @@ ghost use Rattle.std.specs.Prelude.{◌≡◌, ◌<◌, ◌≤◌, ◌+◌, ◌^
 ghost use Rattle.std.specs.Prelude.{option_map, IfOk, OnOk};
 ghost use Rattle.cjc_jvm_semantics.specs.Machine.{Frame, are_of_sorts, heap_of, holder_of, at_callee, at_selected};
 ghost use Rattle.cjc_jvm_semantics.specs.Machine.{on_receiver, at_call, after_lookup, with_types};
-ghost use Rattle.cjc_jvm_semantics.specs.Script.declared.value.Value.{Value};
+ghost use Rattle.cjc_jvm_step.specs.Script.declared.value.Value.{Value};
 ghost use Rattle.cjc_jvm_semantics.specs.Linked;
 ghost use Rattle.cjc_jvm.specs.Acts.Meant.{sort_meant};
 ghost use Rattle.cjc_jvm_step.specs.Step.Names.{callee_of, selection_of, IsCall};

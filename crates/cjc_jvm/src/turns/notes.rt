@@ -3,7 +3,7 @@
 
 ghost use Rattle.std.specs.Prelude.{◌≡◌, IfOk};
 ghost use Rattle.cjc_jvm_semantics.specs.OnePackage.{of_class};
-ghost use Rattle.cjc_jvm_semantics.specs.Script.declared.report.Note.TheVariants.{Event, Thrown};
+ghost use Rattle.cjc_jvm_step.specs.Script.declared.report.Note.TheVariants.{Event, Thrown};
 
 use cjc_jvm_semantics::bytes::{Bytes, MemberId, NoMemory, Row};
 use cjc_jvm_semantics::script::{Note, Value};

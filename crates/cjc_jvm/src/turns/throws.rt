@@ -1,7 +1,7 @@
 //! Exceptions and their handlers (Java Virtual Machine Specification, 2.10).
 
 ghost use Rattle.std.specs.Prelude.{◌≡◌, ◌<◌, ◌≤◌, ◌+◌, ◌^◌, ◌∷◌, ℕ, List, length, slice_get, IfOk, OnOk};
-ghost use Rattle.cjc_jvm_semantics.specs.CardSemantics.Bytecode.Runs.{Move};
+ghost use Rattle.cjc_jvm_step.specs.CardSemantics.Bytecode.Runs.{Move};
 ghost use Rattle.cjc_jvm_semantics.specs.Effects.{exception_class};
 ghost use Rattle.cjc_jvm_semantics.specs.Machine.{Frame, State, heap_of, offset, handler, handler_in, at_handler};
 ghost use Rattle.cjc_jvm_semantics.specs.Machine.{after_throw, after_raise, after_athrow, takes};

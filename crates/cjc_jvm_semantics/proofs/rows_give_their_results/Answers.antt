@@ -1,7 +1,7 @@
 use Rattle.std.proofs.Common.{refl, ap}
 use Rattle.std.specs.Prelude.{◌∷◌}
 use Rattle.std.specs.Int.{int_wrap}
-use Rattle.cjc_code.specs.LowerBytes.Spots.{desc_of, parts_of, bad_at, after, types_from}
+use Rattle.cjc_code.specs.Bytes.Spots.{desc_of, parts_of, bad_at, after, types_from}
 use Rattle.cjc_script.specs.declared.value.Value.TheVariants.{Null}
 use Rattle.cjc_jvm_semantics.specs.Effects.{effect, field_get}
 use Rattle.cjc_jvm_semantics.proofs.rows_give_their_results.Goals as goal

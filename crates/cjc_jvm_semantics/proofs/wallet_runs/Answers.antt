@@ -1,9 +1,9 @@
 use Rattle.std.proofs.Common.{refl}
 use Rattle.std.specs.Int.{int_wrap}
-use Rattle.cjc_code.specs.LowerBytes.Format.{repeated, raw}
-use Rattle.cjc_code.specs.LowerBytes.Reading.{front, digits}
-use Rattle.cjc_code.specs.LowerBytes.Found.{each}
-use Rattle.cjc_code.specs.LowerBytes.Spots.{desc_of, parts_of, bad_at, after, types_from}
+use Rattle.cjc_code.specs.Bytes.Format.{repeated, raw}
+use Rattle.cjc_code.specs.Bytes.Reading.{front, digits}
+use Rattle.cjc_code.specs.Bytes.Found.{each}
+use Rattle.cjc_code.specs.Bytes.Spots.{desc_of, parts_of, bad_at, after, types_from}
 use Rattle.cjc_code.specs.Table.{row}
 use Rattle.cjc_code.specs.Instruction.{operand, operands, opcode_at, wide_opcode_at, behind_opcode, behind_first}
 use Rattle.cjc_code.specs.Instruction.{instruction}

@@ -3,7 +3,7 @@ use Rattle.std.proofs.Common.{◌≡◌, ℕ, zero, suc, ◌<◌, refl, ap, ◌�
 use Rattle.std.proofs.Common.{false}
 use Rattle.std.proofs.lemmas.List.{length-map}
 use Rattle.std.specs.Prelude.{Option, Some, None, option_map, option_and_then, slice_get, slice_set, if◌then◌else◌}
-use Rattle.cjc_jvm_semantics.specs.Bytes.declared.fault.MemberId.{MemberId}
+use Rattle.cjc_script.specs.Bytes.declared.fault.MemberId.{MemberId}
 use Rattle.cjc_script.specs.declared.value.Value.{Value}
 use Rattle.cjc_script.specs.declared.report.FieldValue.{FieldValue}
 use Rattle.cjc_jvm_semantics.specs.Effects.{is_same_field, is_same_kind, value_in, values_with}

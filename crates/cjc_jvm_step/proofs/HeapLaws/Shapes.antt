@@ -1,7 +1,7 @@
 -- The types of arrays of numbers by their descriptors.
 use Rattle.std.proofs.Common.{◌≡◌, refl}
 use Rattle.std.specs.Prelude.{Some}
-use Rattle.cjc_jvm_semantics.specs.Bytes.Spots.{after, bad_at, types_from, parts_of, desc_of}
+use Rattle.cjc_script.specs.Bytes.Spots.{after, bad_at, types_from, parts_of, desc_of}
 use Rattle.cjc_script.specs.Sorts.{OfNumbers, array_name, shape_named}
 use Rattle.cjc_jvm_step.specs.declared.heap.kind.Element.{Element}
 use Rattle.cjc_jvm_step.specs.declared.heap.kind.Element.TheVariants.{Boolean, Byte, Short, Int}

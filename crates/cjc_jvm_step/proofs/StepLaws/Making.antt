@@ -1,7 +1,7 @@
 -- The fields of new objects, as look-ups answer them.
 use Rattle.std.proofs.Common.{◌≡◌, List, map, ap, refl}
 use Rattle.std.specs.Prelude.{Option, Some, None, option_map}
-use Rattle.cjc_jvm_semantics.specs.Bytes.declared.fault.MemberId.{MemberId}
+use Rattle.cjc_script.specs.Bytes.declared.fault.MemberId.{MemberId}
 use Rattle.cjc_script.specs.declared.report.FieldValue.{FieldValue}
 use Rattle.cjc_jvm_semantics.specs.Effects.{Effect, Stick, fresh_field, with_some}
 

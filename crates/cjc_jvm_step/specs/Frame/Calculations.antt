@@ -1,6 +1,6 @@
 -- What an operation of two numbers gives, as data.
 use Rattle.std.specs.Prelude.{ℤ, if◌then◌else◌}
-use Rattle.cjc_jvm_semantics.specs.Range.Words.{wide}
+use Rattle.cjc_jvm_semantics.specs.LowerRange.Words.{wide}
 use Rattle.cjc_jvm_semantics.specs.Arithmetic.{Operation, Gives, Divides, Neither, is_zero}
 use Rattle.cjc_jvm_step.specs.declared.frame.calculation.Calculation.{Calculation}
 use Rattle.cjc_jvm_step.specs.declared.frame.calculation.Calculation.TheVariants.{Number, ByZero, Nothing}

@@ -1,6 +1,6 @@
 -- What instructions look up and change in the heap, by the definition's steps.
 use Rattle.std.specs.Prelude.{ℕ, ℤ, List, [], Option, Some, None, slice_get, slice_set}
-use Rattle.cjc_jvm_semantics.specs.Bytes.declared.fault.MemberId.{MemberId}
+use Rattle.cjc_script.specs.Bytes.declared.fault.MemberId.{MemberId}
 use Rattle.cjc_script.specs.declared.value.Value.{Value}
 use Rattle.cjc_script.specs.declared.report.Thing.{Thing}
 use Rattle.cjc_script.specs.Sorts.{shape_named}

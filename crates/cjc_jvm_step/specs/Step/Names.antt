@@ -1,6 +1,6 @@
 -- What instructions name, as look-ups answer it, in the definition's terms.
 use Rattle.std.specs.Prelude.{◌≡◌, ℕ, List, Option, Some, None}
-use Rattle.cjc_jvm_semantics.specs.Bytes.declared.fault.MemberId.{MemberId}
+use Rattle.cjc_script.specs.Bytes.declared.fault.MemberId.{MemberId}
 use Rattle.cjc_script.specs.Sorts
 use Rattle.cjc_jvm_step.specs.Heap.Kinds.{elements_of}
 use Rattle.cjc_jvm_semantics.specs.Linked

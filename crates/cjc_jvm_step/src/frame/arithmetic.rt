@@ -1,7 +1,7 @@
 //! Arithmetic, shifts and logic on int, i2b and i2s (Java Virtual Machine Specification, 6.5).
 
 ghost use Rattle.std.specs.Prelude.{◌≡◌, ◌<◌, length, IfOk};
-ghost use Rattle.cjc_jvm_semantics.specs.Bytecode.Jvm as jvm;
+ghost use Rattle.cjc_jvm_semantics.specs.LowerBytecode.Jvm as jvm;
 ghost use Rattle.cjc_jvm_semantics.specs.Arithmetic.{operation};
 ghost use Rattle.cjc_jvm_semantics.specs.Effects.{after_operation, after_arithmetic, after_narrowing};
 ghost use Rattle.cjc_jvm_step.specs.Frame.Deeds.{Follows};

@@ -4,7 +4,7 @@
 ghost use Rattle.std.specs.Prelude.{◌≡◌, ◌≢◌, ◌^◌, pos, ◌+ℤ◌, ◌-ℤ◌, ◌*ℤ◌};
 ghost use Rattle.std.specs.Int.{w32, int_shr, int_bit_and, int_bit_or, int_bit_xor};
 ghost use Rattle.std.specs.Int.RustNames.{int_div, int_rem};
-ghost use Rattle.cjc_jvm_semantics.specs.Range.Words.{wide, low_word, low_byte, shift_distance, unsigned_shift};
+ghost use Rattle.cjc_jvm_semantics.specs.LowerRange.Words.{wide, low_word, low_byte, shift_distance, unsigned_shift};
 ghost use Rattle.cjc_jvm_semantics.specs.Arithmetic.{relation, negation};
 
 /// The sum.

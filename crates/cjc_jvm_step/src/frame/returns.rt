@@ -1,7 +1,7 @@
 //! ireturn, areturn, return and athrow (Java Virtual Machine Specification, 6.5).
 
 ghost use Rattle.std.specs.Prelude.{◌≡◌};
-ghost use Rattle.cjc_jvm_semantics.specs.Bytecode.Jvm as jvm;
+ghost use Rattle.cjc_jvm_semantics.specs.LowerBytecode.Jvm as jvm;
 ghost use Rattle.cjc_jvm_semantics.specs.Effects.{one_value, at_return, on_throw};
 ghost use Rattle.cjc_jvm_step.specs.Frame.Deeds.{Follows};
 

@@ -2,7 +2,7 @@
 //! served as a byte array is.
 
 ghost use Rattle.std.specs.Prelude.{◌≡◌, ◌<◌, ◌^◌, ◌∷◌, ◌-◌, ℕ, List, [], length, take};
-ghost use Rattle.cjc_jvm_semantics.specs.Bytes.Spots.{part_of};
+ghost use Rattle.cjc_script.specs.Bytes.Spots.{part_of};
 ghost use Rattle.cjc_script.specs.Sorts.{shape_named, array_by, array_name};
 ghost use Rattle.cjc_jvm_semantics.specs.Effects.{serves};
 ghost use Rattle.cjc_jvm_step.specs.Heap.Kinds.{effect_moves, elements_of, shape_of, is_class_and_end};

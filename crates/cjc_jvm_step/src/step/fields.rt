@@ -1,7 +1,7 @@
 //! getfield and putfield of a field that is found (Java Virtual Machine Specification, 6.5).
 
 ghost use Rattle.std.specs.Prelude.{◌≡◌, ◌<◌, length, Some, IfOk, option_map};
-ghost use Rattle.cjc_jvm_semantics.specs.Bytecode.declared.insn.JOp.TheVariants as jop;
+ghost use Rattle.cjc_jvm_semantics.specs.LowerBytecode.declared.insn.JOp.TheVariants as jop;
 ghost use Rattle.cjc_jvm_semantics.specs.Linked.{Instance};
 ghost use Rattle.cjc_jvm_semantics.specs.Effects.{field_get, field_put, effect};
 ghost use Rattle.cjc_jvm_semantics.specs.OnePackage.{of_class};

@@ -5,7 +5,7 @@ ghost use Rattle.std.specs.Prelude.{◌≡◌, ◌<◌, ◌≤◌, ◌+◌, ◌^
 ghost use Rattle.cjc_script.specs.declared.value.Value.{Value};
 ghost use Rattle.cjc_script.specs.declared.report.Thing.TheVariants as things;
 ghost use Rattle.cjc_script.specs.Sorts.{shape_named};
-ghost use Rattle.cjc_jvm_semantics.specs.Bytecode.declared.insn.JOp.TheVariants as jop;
+ghost use Rattle.cjc_jvm_semantics.specs.LowerBytecode.declared.insn.JOp.TheVariants as jop;
 ghost use Rattle.cjc_jvm_semantics.specs.Effects.{one_number, with_size, with_new, with_new_numbers, element_of};
 ghost use Rattle.cjc_jvm_semantics.specs.Effects.{effect};
 ghost use Rattle.cjc_jvm_step.specs.Frame.Deeds.{FollowsOn};

@@ -2,7 +2,7 @@
 //! read or written. Called by `instruction`.
 
 ghost use Rattle.std.specs.Prelude.{◌≡◌, ◌<◌, length, List, Some, IfOk, option_map};
-ghost use Rattle.cjc_jvm_semantics.specs.Bytecode.declared.insn.JOp.TheVariants as jop;
+ghost use Rattle.cjc_jvm_semantics.specs.LowerBytecode.declared.insn.JOp.TheVariants as jop;
 ghost use Rattle.cjc_script.specs.declared.report.Thing.{Thing};
 ghost use Rattle.cjc_jvm_semantics.specs.Linked.{Static};
 ghost use Rattle.cjc_jvm_semantics.specs.OnePackage.{of_class};

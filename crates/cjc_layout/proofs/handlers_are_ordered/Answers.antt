@@ -1,5 +1,5 @@
 use Rattle.std.proofs.Common.{refl}
-use Rattle.cjc_ncode.specs.CapRead.Opcodes.{form, forms}
+use Rattle.cjc_ncode.specs.LowerCapRead.Opcodes.{form, forms}
 use Rattle.cjc_layout.proofs.handlers_are_ordered.Goals as goal
 
 pub returns-clause-handlers : goal.returns-clause-handlers

@@ -6,32 +6,32 @@ use Rattle.std.specs.List.{flat_map}
 use Rattle.std.proofs.lemmas.List.{drop_all}
 use Rattle.std.proofs.lemmas.Option.{slice_get-get_or, slice_get_read}
 use Rattle.std.proofs.lemmas.List.Concat.{flat_map-cons}
-use Rattle.cjc_check.specs.CapRead.declared.opcode.OpInfo.{OpInfo}
-use Rattle.cjc_check.specs.CapRead.declared.tree.Handler.{Handler}
-use Rattle.cjc_check.specs.CapRead.Opcodes.{op_info}
-use Rattle.cjc_components.specs.NCode.declared.narrow.NInsn.{NInsn}
-use Rattle.cjc_components.specs.NCode.declared.narrow.NInsn.TheVariants as insns
-use Rattle.cjc_components.specs.NCode.declared.narrow.NMethod.{NMethod}
-use Rattle.cjc_components.specs.NCode.declared.narrow.PoolKey.{PoolKey}
-use Rattle.cjc_components.specs.NCode.PoolOrder.{same_key}
-use Rattle.cjc_components.specs.NCode.Lowering.Naming.{Naming}
-use Rattle.cjc_check.specs.CapRead.Card.{invokeinterface}
-use Rattle.cjc_components.specs.NCode.Lowering.Handlers as Lower
-use Rattle.cjc_components.specs.NCode.Lowering.Package.{all_bytes, all_handlers}
-use Rattle.cjc_components.specs.NCode.Lowering.Placed.{Placed, bytes_before, code_bytes, extended_header, insn_size}
-use Rattle.cjc_components.specs.NCode.Lowering.Placed.{method_bytes}
-use Rattle.cjc_components.specs.NCode.Lowering.Placed.{offset_of, short_header}
-use Rattle.cjc_components.specs.Layout.declared.layout.Layout.{Layout}
-use Rattle.cjc_components.specs.Layout.Forms.{HasForm}
-use Rattle.cjc_components.specs.Layout.Handlers.{table_order}
-use Rattle.cjc_components.specs.Layout.Layouts.{IsLayout}
-use Rattle.cjc_components.specs.Layout.OnCard.{handler_on_card}
-use Rattle.cjc_components.specs.Layout.Sizes as Sizes
+use Rattle.cjc_pool.specs.CapRead.declared.opcode.OpInfo.{OpInfo}
+use Rattle.cjc_pool.specs.CapRead.declared.tree.Handler.{Handler}
+use Rattle.cjc_pool.specs.CapRead.Opcodes.{op_info}
+use Rattle.cjc_pool.specs.NCode.declared.narrow.NInsn.{NInsn}
+use Rattle.cjc_pool.specs.NCode.declared.narrow.NInsn.TheVariants as insns
+use Rattle.cjc_pool.specs.NCode.declared.narrow.NMethod.{NMethod}
+use Rattle.cjc_pool.specs.NCode.declared.narrow.PoolKey.{PoolKey}
+use Rattle.cjc_pool.specs.NCode.PoolOrder.{same_key}
+use Rattle.cjc_pool.specs.NCode.Lowering.Naming.{Naming}
+use Rattle.cjc_pool.specs.CapRead.Card.{invokeinterface}
+use Rattle.cjc_pool.specs.NCode.Lowering.Handlers as Lower
+use Rattle.cjc_pool.specs.NCode.Lowering.Package.{all_bytes, all_handlers}
+use Rattle.cjc_pool.specs.NCode.Lowering.Placed.{Placed, bytes_before, code_bytes, extended_header, insn_size}
+use Rattle.cjc_pool.specs.NCode.Lowering.Placed.{method_bytes}
+use Rattle.cjc_pool.specs.NCode.Lowering.Placed.{offset_of, short_header}
+use Rattle.cjc_pool.specs.Layout.declared.layout.Layout.{Layout}
+use Rattle.cjc_pool.specs.Layout.Forms.{HasForm}
+use Rattle.cjc_pool.specs.Layout.Handlers.{table_order}
+use Rattle.cjc_pool.specs.Layout.Layouts.{IsLayout}
+use Rattle.cjc_pool.specs.Layout.OnCard.{handler_on_card}
+use Rattle.cjc_pool.specs.Layout.Sizes as Sizes
 use Rattle.cjc_components.proofs.LayoutLowered.{before_same, handlers_placed}
-use Rattle.cjc_components.specs.Emit.declared.emitted.MethodBytes.{MethodBytes}
-use Rattle.cjc_components.specs.Emit.Emitted.{IsEmittable, IsEmitted, code_places, emitted_bytes, header_bytes}
-use Rattle.cjc_components.specs.Emit.Emitted.{index_place}
-use Rattle.cjc_components.specs.Emit.Emitted.{index_places, insn_places, is_short}
+use Rattle.cjc_pool.specs.Emit.declared.emitted.MethodBytes.{MethodBytes}
+use Rattle.cjc_pool.specs.Emit.Emitted.{IsEmittable, IsEmitted, code_places, emitted_bytes, header_bytes}
+use Rattle.cjc_pool.specs.Emit.Emitted.{index_place}
+use Rattle.cjc_pool.specs.Emit.Emitted.{index_places, insn_places, is_short}
 use Rattle.cjc_components.proofs.EmitShifted.{bytes_anywhere}
 use Rattle.cjc_components.specs.Components.{places_in}
 use Rattle.cjc_components.specs.Methods.{first_method, header_of, placed_at, placed_from, placed_methods, with_abstract}

@@ -2,20 +2,20 @@
 use Rattle.std.proofs.Common.{◌≡◌, ℕ, zero, suc, ◌≤◌, refl, sym, ap, subst, ◌∙◌, arith, List, [], ◌∷◌, ◌++◌, length}
 use Rattle.std.specs.Prelude.{map, slice_get, option_map, Option, Some}
 use Rattle.std.proofs.lemmas.Option.{slice_get-map}
-use Rattle.cjc_pool.specs.Bytecode.declared.method_code.MethodCode.{MethodCode}
-use Rattle.cjc_components.specs.List.Listed.{ListTree}
-use Rattle.cjc_components.specs.LowerLowerTypes.declared.state.State.{State}
+use Rattle.cjc_components.specs.Bytecode.declared.method_code.MethodCode.{MethodCode}
+use Rattle.cjc_pool.specs.List.Listed.{ListTree}
+use Rattle.cjc_narrow.specs.Types.declared.state.State.{State}
 use Rattle.cjc_world.specs.declared.found.Found.{Found}
 use Rattle.cjc_world.specs.declared.image.StaticImage.{StaticImage}
 use Rattle.cjc_world.specs.Classes.{all_classes}
 use Rattle.cjc_world.specs.Files.{Files}
 use Rattle.cjc_world.specs.Order.{method_order}
-use Rattle.cjc_components.specs.JvmSemantics.Linked.{Method}
-use Rattle.cjc_components.specs.Clinit.Image.{IsImage}
-use Rattle.cjc_components.specs.NCode.declared.narrow.NMethod.{NMethod}
-use Rattle.cjc_components.specs.NCode.PoolOrder.{pool_order}
-use Rattle.cjc_components.specs.Narrow.Rows.Selected.{near_fields}
-use Rattle.cjc_components.specs.Layout.Layouts.{IsLayout}
+use Rattle.cjc_pool.specs.JvmSemantics.Linked.{Method}
+use Rattle.cjc_pool.specs.Clinit.Image.{IsImage}
+use Rattle.cjc_pool.specs.NCode.declared.narrow.NMethod.{NMethod}
+use Rattle.cjc_pool.specs.NCode.PoolOrder.{pool_order}
+use Rattle.cjc_narrow.specs.Rows.Selected.{near_fields}
+use Rattle.cjc_pool.specs.Layout.Layouts.{IsLayout}
 use Rattle.cjc_components.specs.Package.{LaidMethod, Package}
 use Rattle.cjc_components.specs.Written.{IsPackage, IsWritten, code_at, is_abstract_at}
 use Rattle.cjc_methods.specs.declared.layouts.laid.Laid.{Laid}

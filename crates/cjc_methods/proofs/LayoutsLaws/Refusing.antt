@@ -6,16 +6,16 @@ use Rattle.std.proofs.lemmas.Bool.{ltb-false, ltb-true}
 use Rattle.cjc_bytes.specs.declared.fault.Fault.TheVariants as faults
 use Rattle.cjc_bytes.specs.declared.fault.MemberId.{MemberId}
 use Rattle.cjc_bytes.specs.declared.fault.Refusal.{Refusal}
-use Rattle.cjc_components.specs.ClassFile.Code.{CodeTree}
-use Rattle.cjc_components.specs.ClassFile.declared.tree.ClassTree.{ClassTree}
-use Rattle.cjc_components.specs.ClassFile.declared.tree.MethodTree.{MethodTree}
+use Rattle.cjc_world.specs.ClassFile.Code.{CodeTree}
+use Rattle.cjc_world.specs.ClassFile.declared.tree.ClassTree.{ClassTree}
+use Rattle.cjc_world.specs.ClassFile.declared.tree.MethodTree.{MethodTree}
 use Rattle.cjc_world.specs.declared.found.Found.{Found}
 use Rattle.cjc_world.specs.Files.{Files}
-use Rattle.cjc_components.specs.JvmSemantics.OnePackage.{method_by, method_in}
-use Rattle.cjc_components.specs.NCode.declared.narrow.NMethod.{NMethod}
-use Rattle.cjc_components.specs.Layout.declared.layout.Layout.{Layout}
-use Rattle.cjc_components.specs.Layout.Layouts.{IsLayout}
-use Rattle.cjc_components.specs.Layout.Refusals.{IsRefusalBy, first_of, if_too_long, of_method, refusal_of}
+use Rattle.cjc_pool.specs.JvmSemantics.OnePackage.{method_by, method_in}
+use Rattle.cjc_pool.specs.NCode.declared.narrow.NMethod.{NMethod}
+use Rattle.cjc_pool.specs.Layout.declared.layout.Layout.{Layout}
+use Rattle.cjc_pool.specs.Layout.Layouts.{IsLayout}
+use Rattle.cjc_pool.specs.Layout.Refusals.{IsRefusalBy, first_of, if_too_long, of_method, refusal_of}
 use Rattle.cjc_components.specs.Written.{is_abstract_at, is_abstract_by}
 use Rattle.cjc_methods.specs.declared.layouts.laid.Laid.{Laid}
 use Rattle.cjc_methods.specs.declared.layouts.tries.Try.TheVariants as tries

@@ -4,12 +4,12 @@ use Rattle.std.proofs.Common.{◌∷◌, ◌++◌, length, get_or, drop, append_
 use Rattle.std.proofs.lemmas.List.{drop_all}
 use Rattle.std.specs.Prelude.{map, sum_by, slice_get, Some, if◌then◌else◌}
 use Rattle.std.proofs.lemmas.List.Sums.{sum_by-cons}
-use Rattle.cjc_components.specs.NCode.declared.narrow.NCatch.{NCatch}
-use Rattle.cjc_components.specs.NCode.declared.narrow.NMethod.{NMethod}
-use Rattle.cjc_components.specs.Layout.Handlers.{handlers_of, table_order}
-use Rattle.cjc_components.specs.Layout.Layouts.{IsLayout}
-use Rattle.cjc_components.specs.Layout.Sizes.{bytes_before}
-use Rattle.cjc_components.specs.Emit.Emitted.{header_bytes}
+use Rattle.cjc_pool.specs.NCode.declared.narrow.NCatch.{NCatch}
+use Rattle.cjc_pool.specs.NCode.declared.narrow.NMethod.{NMethod}
+use Rattle.cjc_pool.specs.Layout.Handlers.{handlers_of, table_order}
+use Rattle.cjc_pool.specs.Layout.Layouts.{IsLayout}
+use Rattle.cjc_pool.specs.Layout.Sizes.{bytes_before}
+use Rattle.cjc_pool.specs.Emit.Emitted.{header_bytes}
 use Rattle.cjc_components.specs.Methods.{bytecode_count, first_method, handler_count, header_of, method_size}
 use Rattle.cjc_components.specs.Methods.{placed_from, with_abstract}
 use Rattle.cjc_components.specs.Package.{LaidMethod}

@@ -14,12 +14,12 @@ use Rattle.cjc_bytes.proofs.BrokenRules.{not_broken}
 use Rattle.cjc_world.specs.declared.found.Found.{Found}
 use Rattle.cjc_world.specs.Classes.{Class, all_classes, class_at}
 use Rattle.cjc_world.specs.Files.{Files}
-use Rattle.cjc_components.specs.NCode.declared.narrow.NMethod.{NMethod}
+use Rattle.cjc_pool.specs.NCode.declared.narrow.NMethod.{NMethod}
 use Rattle.cjc_components.specs.Descriptor.{method_in}
 use Rattle.cjc_components.specs.Limits.{form_breaks, has_many_entries, in_class, layout_breaks, method_spot, of_methods}
 use Rattle.cjc_components.specs.Limits.{order_breaks}
 use Rattle.cjc_components.specs.Package.{LaidMethod, Package, pool, world}
-use Rattle.cjc_components.specs.NCode.PoolOrder.{pool_order}
+use Rattle.cjc_pool.specs.NCode.PoolOrder.{pool_order}
 use Rattle.cjc_methods.specs.Ready.{IsOwn}
 use Rattle.cjc_methods.specs.Layouts.Limits.{IsTold}
 use Rattle.cjc_methods.specs.declared.layouts.laid.Laid.{Laid}

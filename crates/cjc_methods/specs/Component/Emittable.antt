@@ -1,6 +1,6 @@
 -- Methods of a package that can be emitted by its pool.
 use Rattle.std.specs.Prelude.{◌≡◌, ℕ, slice_get, Some}
-use Rattle.cjc_components.specs.Emit.Emitted.{IsEmittable}
+use Rattle.cjc_pool.specs.Emit.Emitted.{IsEmittable}
 use Rattle.cjc_pool.specs.Pool.{PoolView, token_in}
 use Rattle.cjc_components.specs.Package.{LaidMethod, Package}
 use Rattle.cjc_components.specs.Package as packages

@@ -1,9 +1,9 @@
 -- What of a package its methods, its list and its export file are known by, where rules 311, 414 and 415 are tested.
 use Rattle.std.specs.Prelude.{◌≡◌, ℕ, List, length, map}
-use Rattle.cjc_check.specs.ExportFile.Written.{constants}
+use Rattle.cjc_world.specs.ExportFile.Written.{constants}
 use Rattle.cjc_world.specs.declared.found.Found.{Found}
 use Rattle.cjc_world.specs.Files.{Files}
-use Rattle.cjc_components.specs.NCode.declared.narrow.NMethod.{NMethod}
+use Rattle.cjc_pool.specs.NCode.declared.narrow.NMethod.{NMethod}
 use Rattle.cjc_components.specs.Package.{Package, codes}
 use Rattle.cjc_components.specs.ExportFile.{export_of}
 

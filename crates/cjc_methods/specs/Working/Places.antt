@@ -1,11 +1,11 @@
 -- Which of the codes of a package each method has.
 use Rattle.std.specs.Prelude.{◌≡◌, ℕ, ◌+◌, List, [], ◌∷◌, slice_get, Option, None, Some, option_and_then}
-use Rattle.cjc_components.specs.ClassFile.Code.{CodeTree}
-use Rattle.cjc_components.specs.ClassFile.declared.tree.ClassTree.{ClassTree}
-use Rattle.cjc_components.specs.ClassFile.declared.tree.MethodTree.{MethodTree}
-use Rattle.cjc_pool.specs.Bytecode.declared.method_code.MethodCode.{MethodCode}
-use Rattle.cjc_components.specs.Tokens.Tokens.{joined}
-use Rattle.cjc_components.specs.LowerLowerTypes.Tables.{IsMethodOf}
+use Rattle.cjc_world.specs.ClassFile.Code.{CodeTree}
+use Rattle.cjc_world.specs.ClassFile.declared.tree.ClassTree.{ClassTree}
+use Rattle.cjc_world.specs.ClassFile.declared.tree.MethodTree.{MethodTree}
+use Rattle.cjc_components.specs.Bytecode.declared.method_code.MethodCode.{MethodCode}
+use Rattle.cjc_pool.specs.Tokens.Tokens.{joined}
+use Rattle.cjc_narrow.specs.Types.Tables.{IsMethodOf}
 use Rattle.cjc_world.specs.Files.{Files}
 
 -- the next place, where a method has code

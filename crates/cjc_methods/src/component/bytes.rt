@@ -3,7 +3,7 @@
 
 ghost use Rattle.std.specs.Prelude.{◌≡◌, ◌+◌, ◌++◌, length, map, OnOk};
 ghost use Rattle.std.specs.List.{flat_map};
-ghost use Rattle.cjc_components.specs.NCode.Lowering.Package.{all_bytes};
+ghost use Rattle.cjc_pool.specs.NCode.Lowering.Package.{all_bytes};
 ghost use Rattle.cjc_components.specs.Components.{places_in};
 ghost use Rattle.cjc_components.specs.Methods.{placed_methods};
 ghost use Rattle.cjc_components.specs.Names.{names};

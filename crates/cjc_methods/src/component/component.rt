@@ -3,8 +3,8 @@
 
 ghost use Rattle.std.specs.Prelude.{◌≡◌, ◌++◌, length, map, IfOk, OnOk};
 ghost use Rattle.std.specs.List.{flat_map};
-ghost use Rattle.cjc_components.specs.NCode.Lowering.Package.{all_bytes};
-ghost use Rattle.cjc_check.specs.CheckRules.Locations.{distances};
+ghost use Rattle.cjc_pool.specs.NCode.Lowering.Package.{all_bytes};
+ghost use Rattle.cjc_pool.specs.CheckRules.Locations.{distances};
 ghost use Rattle.cjc_components.specs.Components.{method, places_in, reference_location};
 ghost use Rattle.cjc_components.specs.Methods.{placed_methods};
 ghost use Rattle.cjc_components.specs.Names.{names};

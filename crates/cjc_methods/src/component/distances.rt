@@ -2,7 +2,7 @@
 //! 6.11). They know no method.
 
 ghost use Rattle.std.specs.Prelude.{◌≡◌, ◌-◌, ◌++◌, IfOk, OnOk};
-ghost use Rattle.cjc_check.specs.CheckRules.Locations.{distance, distances};
+ghost use Rattle.cjc_pool.specs.CheckRules.Locations.{distance, distances};
 
 use cjc_bytes::{Bytes, NoMemory, Row};
 use std::alloc::Global;

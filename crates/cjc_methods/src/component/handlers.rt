@@ -1,11 +1,11 @@
 //! The handlers of all methods in one table (Java Card Virtual Machine Specification 2.2.2, section 6.9.1).
 
 ghost use Rattle.std.specs.Prelude.{◌≡◌, ◌+◌, ◌++◌, ◌<◌, ◌^◌, length, map, IfOk, OnOk};
-ghost use Rattle.cjc_components.specs.Emit.Emitted.{header_bytes};
-ghost use Rattle.cjc_components.specs.NCode.Lowering.Laid.{class_index};
-ghost use Rattle.cjc_components.specs.NCode.Lowering.Naming.{Naming};
-ghost use Rattle.cjc_components.specs.NCode.Lowering.Package.{all_handlers};
-ghost use Rattle.cjc_components.specs.Layout.OnCard.{handler_on_card};
+ghost use Rattle.cjc_pool.specs.Emit.Emitted.{header_bytes};
+ghost use Rattle.cjc_pool.specs.NCode.Lowering.Laid.{class_index};
+ghost use Rattle.cjc_pool.specs.NCode.Lowering.Naming.{Naming};
+ghost use Rattle.cjc_pool.specs.NCode.Lowering.Package.{all_handlers};
+ghost use Rattle.cjc_pool.specs.Layout.OnCard.{handler_on_card};
 ghost use Rattle.cjc_components.specs.Methods.{placed_methods};
 ghost use Rattle.cjc_components.specs.Names.{names};
 ghost use Rattle.cjc_components.specs.Package.{Package};
@@ -17,7 +17,7 @@ use crate::layouts::{Methods, header_size};
 use cjc_bytes::{Bytes, NoMemory, Row};
 use cjc_check::capread::Handler;
 use cjc_components::emit::PoolLookup;
-use cjc_components::ncode::NMethod;
+use cjc_narrow::ncode::NMethod;
 use cjc_pool::Pool;
 use std::alloc::Global;
 

@@ -2,7 +2,7 @@
 //! 6.11).
 
 ghost use Rattle.std.specs.Prelude.{◌≡◌, ◌+◌, ◌++◌, map, IfOk, OnOk};
-ghost use Rattle.cjc_check.specs.CheckRules.Locations.{catch_places};
+ghost use Rattle.cjc_pool.specs.CheckRules.Locations.{catch_places};
 ghost use Rattle.cjc_check.specs.Jumps.Listing.{catch_place};
 
 use cjc_bytes::{NoMemory, Row};

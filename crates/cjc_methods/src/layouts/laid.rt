@@ -2,7 +2,7 @@
 
 use cjc_bytes::Row;
 use cjc_components::layout::Layout;
-use cjc_components::ncode::NMethod;
+use cjc_narrow::ncode::NMethod;
 use cjc_world::Found;
 
 /// Which method it is, and its layout.

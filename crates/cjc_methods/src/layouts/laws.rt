@@ -1,19 +1,19 @@
 //! Laws over methods with their layouts, for whoever converts a package. Nothing here runs.
 
 ghost use Rattle.std.specs.Prelude.{◌≡◌, List, Option, map};
-ghost use Rattle.cjc_pool.specs.Bytecode.declared.method_code.MethodCode.{MethodCode};
-ghost use Rattle.cjc_components.specs.List.Listed.{ListTree};
-ghost use Rattle.cjc_components.specs.LowerLowerTypes.declared.state.State.{State};
+ghost use Rattle.cjc_components.specs.Bytecode.declared.method_code.MethodCode.{MethodCode};
+ghost use Rattle.cjc_pool.specs.List.Listed.{ListTree};
+ghost use Rattle.cjc_narrow.specs.Types.declared.state.State.{State};
 ghost use Rattle.cjc_world.specs.declared.found.Found.{Found};
 ghost use Rattle.cjc_world.specs.declared.image.StaticImage.{StaticImage};
 ghost use Rattle.cjc_world.specs.Classes.{all_classes};
 ghost use Rattle.cjc_world.specs.Files.{Files};
 ghost use Rattle.cjc_world.specs.Order.{method_order};
-ghost use Rattle.cjc_components.specs.JvmSemantics.Linked.{Method};
-ghost use Rattle.cjc_components.specs.Clinit.Image.{IsImage};
-ghost use Rattle.cjc_components.specs.NCode.declared.narrow.NMethod.{NMethod};
-ghost use Rattle.cjc_components.specs.NCode.PoolOrder.{pool_order};
-ghost use Rattle.cjc_components.specs.Narrow.Rows.Selected.{near_fields};
+ghost use Rattle.cjc_pool.specs.JvmSemantics.Linked.{Method};
+ghost use Rattle.cjc_pool.specs.Clinit.Image.{IsImage};
+ghost use Rattle.cjc_pool.specs.NCode.declared.narrow.NMethod.{NMethod};
+ghost use Rattle.cjc_pool.specs.NCode.PoolOrder.{pool_order};
+ghost use Rattle.cjc_narrow.specs.Rows.Selected.{near_fields};
 ghost use Rattle.cjc_components.specs.Written.{IsPackage, code_at};
 ghost use Rattle.cjc_methods.specs.Layouts.Laid.{AreOf, laid_methods};
 ghost use Rattle.cjc_methods.specs.declared.layouts.laid.Methods.{Methods};

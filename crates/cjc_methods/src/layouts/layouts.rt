@@ -3,8 +3,8 @@
 ghost use Rattle.std.specs.Prelude.{◌≡◌, [], All, length, IfOk, IfErr, OnOk, option_map};
 ghost use Rattle.cjc_bytes.specs.Breaks.{IsFirstOf, IsFirstRefusal, each};
 ghost use Rattle.cjc_bytes.specs.Told.{break_of};
-ghost use Rattle.cjc_components.specs.NCode.declared.narrow.NMethod.{NMethod as Narrow};
-ghost use Rattle.cjc_components.specs.Layout.Layouts.{IsWhole};
+ghost use Rattle.cjc_pool.specs.NCode.declared.narrow.NMethod.{NMethod as Narrow};
+ghost use Rattle.cjc_pool.specs.Layout.Layouts.{IsWhole};
 ghost use Rattle.cjc_components.specs.Limits.{form_breaks};
 ghost use Rattle.cjc_components.specs.Package.{Package};
 ghost use Rattle.cjc_methods.specs.Ready.{IsOwn};
@@ -17,7 +17,7 @@ use crate::layouts::laid::{Laid, Methods};
 use crate::layouts::limits::{count_break, method_break};
 use crate::layouts::tries::{Try, is_abstract, overtaken, try_layout};
 use cjc_bytes::{Break, Fault, NoMemory, Row, answer, first};
-use cjc_components::ncode::NMethod;
+use cjc_narrow::ncode::NMethod;
 use cjc_world::{Found, World};
 use std::alloc::Global;
 

@@ -4,7 +4,7 @@ ghost use Rattle.std.specs.Prelude.{◌≡◌, ◌++◌, ◌||◌, nat_lt, lengt
 ghost use Rattle.cjc_bytes.specs.Breaks.{IsFirstOf, at, list_spot};
 ghost use Rattle.cjc_bytes.specs.Told.{break_of};
 ghost use Rattle.cjc_world.specs.Classes.{Class, all_classes, class_at};
-ghost use Rattle.cjc_components.specs.NCode.PoolOrder.{pool_order};
+ghost use Rattle.cjc_pool.specs.NCode.PoolOrder.{pool_order};
 ghost use Rattle.cjc_components.specs.Descriptor.{method_in};
 ghost use Rattle.cjc_components.specs.Limits.{method_spot, order_breaks};
 ghost use Rattle.cjc_components.specs.Package.{Package};
@@ -12,8 +12,8 @@ ghost use Rattle.cjc_methods.specs.Ready.{IsOwn};
 
 use crate::method_spot;
 use cjc_bytes::{Break, NoMemory, RulePlace, broken, first};
-use cjc_components::narrow::keys::number;
-use cjc_components::ncode::NMethod;
+use cjc_narrow::keys::number;
+use cjc_narrow::ncode::NMethod;
 use cjc_pool::MOST_ENTRIES;
 use cjc_world::{Found, World};
 use std::alloc::Global;

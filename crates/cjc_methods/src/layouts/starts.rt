@@ -2,7 +2,7 @@
 //! the other (Java Card Virtual Machine Specification 2.2.2, section 6.9). It knows no byte.
 
 ghost use Rattle.std.specs.Prelude.{◌≡◌, ◌≤◌, ◌+◌, ◌*◌, ◌++◌, ◌∷◌, length, map, sum_by, IfOk, OnOk};
-ghost use Rattle.cjc_components.specs.Emit.Emitted.{header_bytes};
+ghost use Rattle.cjc_pool.specs.Emit.Emitted.{header_bytes};
 ghost use Rattle.cjc_components.specs.Methods.{first_method, placed_from};
 ghost use Rattle.cjc_methods.specs.Layouts.Laid.{AreLaid, laid_methods};
 ghost use Rattle.cjc_methods.specs.Layouts.Working.Offsets.{handlers_of, offsets_from};
@@ -10,7 +10,7 @@ ghost use Rattle.cjc_methods.specs.Layouts.Working.Offsets.{handlers_of, offsets
 use crate::layouts::laid::{Laid, Methods};
 use cjc_bytes::{NoMemory, Row};
 use cjc_components::layout::Layout;
-use cjc_components::ncode::NMethod;
+use cjc_narrow::ncode::NMethod;
 use std::alloc::Global;
 
 /// The bytes of a method's header.

@@ -2,14 +2,14 @@
 //! order of refusals.
 
 ghost use Rattle.std.specs.Prelude.{◌≡◌, IfOk};
-ghost use Rattle.cjc_components.specs.NCode.declared.narrow.NMethod.{NMethod as Narrow};
-ghost use Rattle.cjc_components.specs.Layout.Layouts.{IsWhole};
+ghost use Rattle.cjc_pool.specs.NCode.declared.narrow.NMethod.{NMethod as Narrow};
+ghost use Rattle.cjc_pool.specs.Layout.Layouts.{IsWhole};
 ghost use Rattle.cjc_components.specs.Written.{is_abstract_at};
 ghost use Rattle.cjc_methods.specs.Layouts.Working.Tries.{IsTry, overtaken, refused};
 
 use cjc_bytes::{Bytes, Fault, MemberId, NoMemory, Refusal};
 use cjc_components::layout::{Layout, lay};
-use cjc_components::ncode::NMethod;
+use cjc_narrow::ncode::NMethod;
 use cjc_world::{Found, World};
 use std::alloc::Global;
 

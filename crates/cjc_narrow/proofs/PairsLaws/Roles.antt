@@ -6,18 +6,18 @@ use Rattle.std.specs.Prelude.{◌==◌, if◌then◌else◌, Option, Some, None,
 use Rattle.std.proofs.lemmas.Option.{slice_get-get_or}
 use Rattle.std.proofs.lemmas.List.Concat.{flat_map-cons}
 use Rattle.std.specs.List.{flat_map}
-use Rattle.cjc_ncode.specs.ClassFile.declared.tree.Catch.{Catch}
-use Rattle.cjc_ncode.specs.Bytes.declared.fault.MemberId.{MemberId}
-use Rattle.cjc_ncode.specs.Bytecode.declared.insn.JInsn.{JInsn}
-use Rattle.cjc_ncode.specs.Bytecode.declared.insn.JOp.{JOp}
-use Rattle.cjc_ncode.specs.Bytecode.declared.insn.JOp.TheVariants as jop
+use Rattle.cjc_types.specs.ClassFile.declared.tree.Catch.{Catch}
+use Rattle.cjc_types.specs.Bytes.declared.fault.MemberId.{MemberId}
+use Rattle.cjc_types.specs.Bytecode.declared.insn.JInsn.{JInsn}
+use Rattle.cjc_types.specs.Bytecode.declared.insn.JOp.{JOp}
+use Rattle.cjc_types.specs.Bytecode.declared.insn.JOp.TheVariants as jop
 use Rattle.cjc_ncode.specs.declared.narrow.PairRole.{PairRole}
 use Rattle.cjc_ncode.specs.declared.narrow.PairRole.TheVariants.{Alone, Opens, Closes}
 use Rattle.cjc_ncode.specs.Written.{Access, Resolution, accessed, is_load, on_this, reached, sources, static_by}
 use Rattle.cjc_ncode.specs.Written.{written}
 use Rattle.cjc_ncode.specs.Written.{written_as, written_for}
 use Rattle.cjc_narrow.specs.declared.select.pairs.PairStep.{PairStep}
-use Rattle.cjc_types.specs.LowerFixpoint.Kept.{IsAscending as MarksAscend}
+use Rattle.cjc_types.specs.Fixpoint.Kept.{IsAscending as MarksAscend}
 use Rattle.cjc_types.specs.Flow.{Body}
 use Rattle.cjc_types.specs.Marks.{marks_of}
 use Rattle.cjc_types.specs.Working.MarkLaws.{marks_are}

@@ -3,8 +3,8 @@ use Rattle.std.proofs.Common.{◌≡◌, ℕ, ◌<◌, ◌≤◌, ◌+◌, ◌-�
 use Rattle.std.proofs.Common.{length, get_or, drop}
 use Rattle.std.specs.Prelude.{slice_get}
 use Rattle.std.specs.List.{flat_map}
-use Rattle.cjc_ncode.specs.ExportFile.declared.tree.ExportClass.{ExportClass}
-use Rattle.cjc_ncode.specs.ExportFile.declared.tree.ExportTree.{ExportTree}
+use Rattle.cjc_types.specs.ExportFile.declared.tree.ExportClass.{ExportClass}
+use Rattle.cjc_types.specs.ExportFile.declared.tree.ExportTree.{ExportTree}
 use Rattle.cjc_types.proofs.BytesGets.{drop_next, get_front, get_back}
 
 -- the classes of all export files

@@ -1,14 +1,14 @@
 -- Fields as code names them, by name and in narrow code.
 use Rattle.std.proofs.Common.{◌≡◌, ◌+◌, refl, Bool, true, false, List}
 use Rattle.std.specs.Prelude.{Option, Some, None, option_map, option_and_then, if◌then◌else◌, ℤ}
-use Rattle.cjc_ncode.specs.Bytes.declared.fault.MemberId.{MemberId}
-use Rattle.cjc_ncode.specs.Bytes.AccessFlags.{is_static}
-use Rattle.cjc_jvm_semantics.specs.Script.Sorts.{Signature, signature_of}
-use Rattle.cjc_jvm_semantics.specs.World.declared.found.Found.{Found}
-use Rattle.cjc_jvm_semantics.specs.World.declared.image.StaticImage.{StaticImage}
-use Rattle.cjc_jvm_semantics.specs.World.Files.{Files}
-use Rattle.cjc_jvm_semantics.specs.World.Classes.{Class, all_classes}
-use Rattle.cjc_jvm_semantics.specs.World.Lookup.{find_field}
+use Rattle.cjc_types.specs.Bytes.declared.fault.MemberId.{MemberId}
+use Rattle.cjc_types.specs.Bytes.AccessFlags.{is_static}
+use Rattle.cjc_jvm_semantics.specs.LowerScript.Sorts.{Signature, signature_of}
+use Rattle.cjc_types.specs.World.declared.found.Found.{Found}
+use Rattle.cjc_types.specs.World.declared.image.StaticImage.{StaticImage}
+use Rattle.cjc_types.specs.World.Files.{Files}
+use Rattle.cjc_types.specs.World.Classes.{Class, all_classes}
+use Rattle.cjc_types.specs.World.Lookup.{find_field}
 use Rattle.cjc_ncode.specs.Written.{words_by}
 use Rattle.cjc_jvm_semantics.specs.Linked.{ResolvedField, Constant, Static, Instance}
 use Rattle.cjc_jvm_semantics.specs.OnePackage.{ResolvedMember, of_class, field_hit, field_by, constant_at}

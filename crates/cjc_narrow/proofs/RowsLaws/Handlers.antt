@@ -7,15 +7,15 @@ use Rattle.std.specs.Prelude.{if◌then◌else◌, is_some, map, nat_le, nat_lt,
 use Rattle.std.specs.List.{flat_map, list_any}
 use Rattle.std.proofs.lemmas.Bool.Decides.{nat_tests}
 use Rattle.std.proofs.lemmas.List.Folds.{flat_map-map}
-use Rattle.cjc_ncode.specs.Bytes.declared.fault.MemberId.{MemberId}
+use Rattle.cjc_types.specs.Bytes.declared.fault.MemberId.{MemberId}
 use Rattle.cjc_types.proofs.BytesBools.{or_true, or_right, not_true}
 use Rattle.cjc_types.proofs.BytesGets.{any_off}
 use Rattle.cjc_types.proofs.BytesQuantified.{any_of_map}
-use Rattle.cjc_ncode.specs.ClassFile.declared.tree.Catch.{Catch}
-use Rattle.cjc_ncode.specs.Bytecode.declared.insn.JInsn.{JInsn}
-use Rattle.cjc_ncode.specs.Bytecode.declared.insn.JOp.{JOp}
-use Rattle.cjc_ncode.specs.Bytecode.declared.insn.JOp.TheVariants as jop
-use Rattle.cjc_ncode.specs.Bytecode.Jvm as jvm
+use Rattle.cjc_types.specs.ClassFile.declared.tree.Catch.{Catch}
+use Rattle.cjc_types.specs.Bytecode.declared.insn.JInsn.{JInsn}
+use Rattle.cjc_types.specs.Bytecode.declared.insn.JOp.{JOp}
+use Rattle.cjc_types.specs.Bytecode.declared.insn.JOp.TheVariants as jop
+use Rattle.cjc_types.specs.Bytecode.Jvm as jvm
 use Rattle.cjc_ncode.specs.declared.narrow.PairRole.{PairRole}
 use Rattle.cjc_ncode.specs.declared.narrow.PairRole.TheVariants.{Alone, Opens, Closes}
 use Rattle.cjc_ncode.specs.declared.narrow.NMethod.{NMethod}
@@ -24,7 +24,7 @@ use Rattle.cjc_ncode.specs.PoolOrder.{is_some as has_class}
 use Rattle.cjc_ncode.specs.Written.{Resolution, accessed, catch_at, catches_at, on_this, place_in}
 use Rattle.cjc_ncode.specs.Written.{reached}
 use Rattle.cjc_ncode.specs.Written.{written, written_as, written_for}
-use Rattle.cjc_types.specs.LowerFixpoint.Kept.{mark_of}
+use Rattle.cjc_types.specs.Fixpoint.Kept.{mark_of}
 use Rattle.cjc_types.specs.Flow.{Body, covers}
 use Rattle.cjc_types.specs.Marks.{marks_of}
 use Rattle.cjc_narrow.specs.declared.select.pairs.PairKind.{PairKind}

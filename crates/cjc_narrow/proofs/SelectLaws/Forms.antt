@@ -1,9 +1,9 @@
 -- The pool of methods that are selected again.
 use Rattle.std.proofs.Common.{◌≡◌, refl, sym, ap, ◌∙◌, List, [], ◌∷◌}
 use Rattle.std.specs.Prelude.{map}
-use Rattle.cjc_ncode.specs.Bytes.declared.fault.MemberId.{MemberId}
-use Rattle.cjc_jvm_semantics.specs.World.Classes.{all_classes}
-use Rattle.cjc_jvm_semantics.specs.World.Files.{Files}
+use Rattle.cjc_types.specs.Bytes.declared.fault.MemberId.{MemberId}
+use Rattle.cjc_types.specs.World.Classes.{all_classes}
+use Rattle.cjc_types.specs.World.Files.{Files}
 use Rattle.cjc_ncode.specs.PoolOrder.{has_catch_type, method_keys, pool_order}
 use Rattle.cjc_types.specs.Flow.{body_of}
 use Rattle.cjc_narrow.proofs.KeysLaws.Indices.{same_pool}

@@ -3,7 +3,7 @@ use Rattle.std.proofs.Common.{◌≡◌, ℕ, zero, suc, ◌+◌, ◌<◌, arith
 use Rattle.std.proofs.Common.{List, [], ◌∷◌, ◌++◌, length, take}
 use Rattle.std.specs.Prelude.{◌&&◌, nat_lt, not, position, Option, Some, None}
 use Rattle.std.specs.List.{list_any, prefix_len}
-use Rattle.cjc_ncode.specs.Bytes.declared.fault.MemberId.{MemberId}
+use Rattle.cjc_types.specs.Bytes.declared.fault.MemberId.{MemberId}
 use Rattle.cjc_ncode.specs.declared.narrow.PoolKey.{PoolKey}
 use Rattle.cjc_ncode.specs.declared.narrow.PoolKey.TheVariants as keys
 use Rattle.cjc_ncode.specs.PoolOrder.{same_key, same_member}

@@ -2,8 +2,8 @@
 use Rattle.std.proofs.Common.{◌≡◌, ℕ, ◌+◌, ◌<◌, ◌≤◌, ◌-◌, arith, sym, ap, ◌∙◌, Bool, List, [], ◌∷◌}
 use Rattle.std.proofs.Common.{◌++◌, length, get_or, drop, append_assoc, append-nil}
 use Rattle.std.proofs.lemmas.List.{drop_all, length-append}
-use Rattle.cjc_ncode.specs.Bytecode.declared.insn.JInsn.{JInsn}
-use Rattle.cjc_ncode.specs.Bytecode.declared.insn.JOp.{JOp}
+use Rattle.cjc_types.specs.Bytecode.declared.insn.JInsn.{JInsn}
+use Rattle.cjc_types.specs.Bytecode.declared.insn.JOp.{JOp}
 use Rattle.cjc_ncode.specs.declared.narrow.NInsn.{NInsn}
 use Rattle.cjc_ncode.specs.declared.narrow.PairRole.{PairRole}
 use Rattle.cjc_ncode.specs.Written.{Resolution, written_as}

@@ -5,8 +5,8 @@ use Rattle.std.specs.Prelude.{if◌then◌else◌, filter, map, nat_le, ℤ, pos
 use Rattle.std.specs.List.{list_any}
 use Rattle.std.specs.Int.RustNames.{int_le}
 use Rattle.std.proofs.lemmas.List.{drop_all}
-use Rattle.cjc_ncode.specs.CardSemantics.Bytecode.Numbers.{is_word}
-use Rattle.cjc_ncode.specs.Bytecode.declared.insn.JCase.{JCase}
+use Rattle.cjc_ncode.specs.LowerCardSemantics.Bytecode.Numbers.{is_word}
+use Rattle.cjc_types.specs.Bytecode.declared.insn.JCase.{JCase}
 use Rattle.cjc_ncode.specs.declared.narrow.NCase.{NCase}
 use Rattle.cjc_ncode.specs.Written.{pair_case, pair_cases, switched, table_cases}
 use Rattle.cjc_narrow.specs.Written.Working.Switches.{any_word, case_if, next_value}

@@ -6,15 +6,15 @@ use Rattle.std.specs.List.{prefix_len}
 use Rattle.std.specs.List.Sorted.{IsNonDecreasingBy}
 use Rattle.std.proofs.lemmas.Option.{slice_get-get_or}
 use Rattle.std.proofs.lemmas.List.{drop_all}
-use Rattle.cjc_ncode.specs.Bytes.declared.fault.MemberId.{MemberId}
-use Rattle.cjc_ncode.specs.Bytes.Descriptor.{Part}
+use Rattle.cjc_types.specs.Bytes.declared.fault.MemberId.{MemberId}
+use Rattle.cjc_types.specs.Bytes.Descriptor.{Part}
 use Rattle.cjc_types.proofs.BytesGets.{from_index}
-use Rattle.cjc_jvm_semantics.specs.Script.Sorts.{sort_of}
-use Rattle.cjc_ncode.specs.CardSemantics.Bytecode.Arguments.{width, widths}
-use Rattle.cjc_ncode.specs.ClassFile.declared.tree.Catch.{Catch}
-use Rattle.cjc_ncode.specs.Bytecode.declared.insn.JInsn.{JInsn}
-use Rattle.cjc_ncode.specs.Bytecode.declared.insn.JOp.{JOp}
-use Rattle.cjc_ncode.specs.Bytecode.declared.insn.JOp.TheVariants as jop
+use Rattle.cjc_jvm_semantics.specs.LowerScript.Sorts.{sort_of}
+use Rattle.cjc_ncode.specs.LowerCardSemantics.Bytecode.Arguments.{width, widths}
+use Rattle.cjc_types.specs.ClassFile.declared.tree.Catch.{Catch}
+use Rattle.cjc_types.specs.Bytecode.declared.insn.JInsn.{JInsn}
+use Rattle.cjc_types.specs.Bytecode.declared.insn.JOp.{JOp}
+use Rattle.cjc_types.specs.Bytecode.declared.insn.JOp.TheVariants as jop
 use Rattle.cjc_ncode.specs.declared.narrow.NCatch.{NCatch}
 use Rattle.cjc_ncode.specs.Written.{Resolution, catch_at, catches_at, low_of, place_in, reached, static_by, table_cases}
 use Rattle.cjc_ncode.specs.Written.{Access, accessed, is_load, on_this, widest_sum, written, written_as, written_for}

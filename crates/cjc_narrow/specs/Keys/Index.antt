@@ -1,7 +1,7 @@
 -- Indices of keys in the constant pool, and the fields whose index fits one byte.
 use Rattle.std.specs.Prelude.{ℕ, List, [], ◌∷◌, take, position, Option}
 use Rattle.std.specs.List.{flat_map}
-use Rattle.cjc_ncode.specs.Bytes.declared.fault.MemberId.{MemberId}
+use Rattle.cjc_types.specs.Bytes.declared.fault.MemberId.{MemberId}
 use Rattle.cjc_ncode.specs.declared.narrow.NMethod.{NMethod}
 use Rattle.cjc_ncode.specs.declared.narrow.PoolKey.{PoolKey}
 use Rattle.cjc_ncode.specs.declared.narrow.PoolKey.TheVariants as keys

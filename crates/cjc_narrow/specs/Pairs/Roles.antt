@@ -5,13 +5,13 @@ use Rattle.std.specs.Prelude.{◌≡◌, ℕ, ◌+◌, ◌<◌, ◌==◌, ◌&&�
 use Rattle.std.specs.Prelude.{length}
 use Rattle.std.specs.Prelude.{get_or, is_some, Option, ℤ}
 use Rattle.std.specs.List.{list_any}
-use Rattle.cjc_ncode.specs.Bytes.AccessFlags.{is_static}
-use Rattle.cjc_ncode.specs.ClassFile.declared.tree.Catch.{Catch}
-use Rattle.cjc_ncode.specs.Bytecode.declared.insn.JInsn.{JInsn}
-use Rattle.cjc_ncode.specs.Bytecode.declared.insn.JOp.{JOp}
-use Rattle.cjc_ncode.specs.Bytecode.declared.insn.JOp.TheVariants as jop
-use Rattle.cjc_ncode.specs.Bytecode.Jvm as jvm
-use Rattle.cjc_types.specs.LowerFixpoint.Kept.{mark_of}
+use Rattle.cjc_types.specs.Bytes.AccessFlags.{is_static}
+use Rattle.cjc_types.specs.ClassFile.declared.tree.Catch.{Catch}
+use Rattle.cjc_types.specs.Bytecode.declared.insn.JInsn.{JInsn}
+use Rattle.cjc_types.specs.Bytecode.declared.insn.JOp.{JOp}
+use Rattle.cjc_types.specs.Bytecode.declared.insn.JOp.TheVariants as jop
+use Rattle.cjc_types.specs.Bytecode.Jvm as jvm
+use Rattle.cjc_types.specs.Fixpoint.Kept.{mark_of}
 use Rattle.cjc_types.specs.Flow.{Body, covers}
 use Rattle.cjc_types.specs.Marks.{marks_of}
 use Rattle.cjc_ncode.specs.declared.narrow.PairRole.{PairRole}

@@ -1,7 +1,7 @@
 -- What does not depend on the forms of field instructions, of one byte or two, nor on which are written as one with an
 -- aload_0: the keys that a method names, and the classes of its handlers.
 use Rattle.std.specs.Prelude.{◌≡◌, List, flat_map, map, Bool, Option}
-use Rattle.cjc_ncode.specs.Bytes.declared.fault.MemberId.{MemberId}
+use Rattle.cjc_types.specs.Bytes.declared.fault.MemberId.{MemberId}
 use Rattle.cjc_types.specs.Flow.{Body}
 use Rattle.cjc_ncode.specs.PoolOrder.{insn_keys}
 use Rattle.cjc_ncode.specs.Written.{Resolution, reached, place_in, narrow_code, catches_at}

@@ -1,9 +1,9 @@
 -- That narrow code names what the machine by name finds: fields, constants, and words of arguments.
 use Rattle.std.specs.Prelude.{◌≡◌, ℕ, ◌+◌, List, Some, None, ℤ}
-use Rattle.cjc_ncode.specs.Bytes.declared.fault.MemberId.{MemberId}
-use Rattle.cjc_jvm_semantics.specs.Script.Sorts.{signature_of}
-use Rattle.cjc_jvm_semantics.specs.World.declared.image.StaticImage.{StaticImage}
-use Rattle.cjc_jvm_semantics.specs.World.Files.{Files}
+use Rattle.cjc_types.specs.Bytes.declared.fault.MemberId.{MemberId}
+use Rattle.cjc_jvm_semantics.specs.LowerScript.Sorts.{signature_of}
+use Rattle.cjc_types.specs.World.declared.image.StaticImage.{StaticImage}
+use Rattle.cjc_types.specs.World.Files.{Files}
 use Rattle.cjc_ncode.specs.Written.{Resolution, nargs_of}
 use Rattle.cjc_jvm_semantics.specs.Linked.{Constant, Static, Instance, Linked}
 use Rattle.cjc_jvm_semantics.specs.ByName.{linked}

@@ -1,26 +1,26 @@
 -- The look-ups of narrow code over the class files and export files of its package.
 use Rattle.std.specs.Prelude.{ℕ, ◌+◌, List, [], map, codes, Option, Some, None, option_map, option_and_then, Bool, true}
 use Rattle.std.specs.Prelude.{false, if◌then◌else◌}
-use Rattle.cjc_ncode.specs.Bytes.declared.fault.MemberId.{MemberId}
-use Rattle.cjc_ncode.specs.Bytes.declared.descriptor.Kind.{Kind}
-use Rattle.cjc_ncode.specs.Bytes.declared.descriptor.Kind.TheVariants as kinds
-use Rattle.cjc_ncode.specs.ClassFile.Code.{CodeTree}
-use Rattle.cjc_jvm_semantics.specs.Script.declared.script.Script.{Script}
-use Rattle.cjc_jvm_semantics.specs.Script.declared.report.FieldValue.{FieldValue}
-use Rattle.cjc_jvm_semantics.specs.Script.declared.report.Report.{Report}
-use Rattle.cjc_jvm_semantics.specs.Script.Sorts.{Element, Booleans, Bytes, Shorts, Ints, Shape, shape_name}
-use Rattle.cjc_jvm_semantics.specs.Script.Sorts.{signature_of}
-use Rattle.cjc_ncode.specs.CardSemantics.Bytecode.Calculations.{Fault, Arithmetic, NullPointer, IndexOutside}
-use Rattle.cjc_ncode.specs.CardSemantics.Bytecode.Calculations.{NegativeSize}
-use Rattle.cjc_ncode.specs.CardSemantics.Bytecode.Calculations.{ClassCast, ArrayStore}
-use Rattle.cjc_ncode.specs.CardSemantics.Bytecode.Effects.{Slot, HeapObject, Numbers, Memory}
-use Rattle.cjc_ncode.specs.CardSemantics.Bytecode.Machine.{Start, Reached, Nowhere, Within, Abroad}
-use Rattle.cjc_jvm_semantics.specs.World.declared.image.ArrayCell.{ArrayCell}
-use Rattle.cjc_jvm_semantics.specs.World.declared.image.StaticImage.{StaticImage}
-use Rattle.cjc_jvm_semantics.specs.World.Files.{Files}
-use Rattle.cjc_jvm_semantics.specs.World.Classes.{Class, all_classes, class_named}
-use Rattle.cjc_jvm_semantics.specs.World.Lookup.{find_method, receiver}
-use Rattle.cjc_jvm_semantics.specs.World.Subtype.{is_subtype}
+use Rattle.cjc_types.specs.Bytes.declared.fault.MemberId.{MemberId}
+use Rattle.cjc_types.specs.Bytes.declared.descriptor.Kind.{Kind}
+use Rattle.cjc_types.specs.Bytes.declared.descriptor.Kind.TheVariants as kinds
+use Rattle.cjc_types.specs.ClassFile.Code.{CodeTree}
+use Rattle.cjc_jvm_semantics.specs.LowerScript.declared.script.Script.{Script}
+use Rattle.cjc_jvm_semantics.specs.LowerScript.declared.report.FieldValue.{FieldValue}
+use Rattle.cjc_jvm_semantics.specs.LowerScript.declared.report.Report.{Report}
+use Rattle.cjc_jvm_semantics.specs.LowerScript.Sorts.{Element, Booleans, Bytes, Shorts, Ints, Shape, shape_name}
+use Rattle.cjc_jvm_semantics.specs.LowerScript.Sorts.{signature_of}
+use Rattle.cjc_ncode.specs.LowerCardSemantics.Bytecode.Calculations.{Fault, Arithmetic, NullPointer, IndexOutside}
+use Rattle.cjc_ncode.specs.LowerCardSemantics.Bytecode.Calculations.{NegativeSize}
+use Rattle.cjc_ncode.specs.LowerCardSemantics.Bytecode.Calculations.{ClassCast, ArrayStore}
+use Rattle.cjc_ncode.specs.LowerCardSemantics.Bytecode.Effects.{Slot, HeapObject, Numbers, Memory}
+use Rattle.cjc_ncode.specs.LowerCardSemantics.Bytecode.Machine.{Start, Reached, Nowhere, Within, Abroad}
+use Rattle.cjc_types.specs.World.declared.image.ArrayCell.{ArrayCell}
+use Rattle.cjc_types.specs.World.declared.image.StaticImage.{StaticImage}
+use Rattle.cjc_types.specs.World.Files.{Files}
+use Rattle.cjc_types.specs.World.Classes.{Class, all_classes, class_named}
+use Rattle.cjc_types.specs.World.Lookup.{find_method, receiver}
+use Rattle.cjc_types.specs.World.Subtype.{is_subtype}
 use Rattle.cjc_ncode.specs.declared.narrow.NMethod.{NMethod}
 use Rattle.cjc_ncode.specs.Written.{narrow_method}
 use Rattle.cjc_ncode.specs.ByLabel.{Callee, Fixed, OnObject, OnSuper, OnInterface, Named}

@@ -2,13 +2,13 @@
 -- Specification, section 5.4.3), and how many words a method takes.
 use Rattle.std.specs.Prelude.{ℕ, ◌+◌, List, Option, Some, None, option_and_then, Bool, ◌||◌, if◌then◌else◌, ℤ}
 use Rattle.std.specs.List.{list_any}
-use Rattle.cjc_ncode.specs.Bytes.declared.fault.MemberId.{MemberId}
-use Rattle.cjc_ncode.specs.Bytes.AccessFlags.{is_private, is_static}
-use Rattle.cjc_jvm_semantics.specs.Script.Sorts.{Signature, signature_of}
-use Rattle.cjc_ncode.specs.CardSemantics.Bytecode.Arguments.{widths}
-use Rattle.cjc_jvm_semantics.specs.World.Files.{Files}
-use Rattle.cjc_jvm_semantics.specs.World.Classes.{Class, all_classes, class_named}
-use Rattle.cjc_jvm_semantics.specs.World.Lookup.{find_field, find_method}
+use Rattle.cjc_types.specs.Bytes.declared.fault.MemberId.{MemberId}
+use Rattle.cjc_types.specs.Bytes.AccessFlags.{is_private, is_static}
+use Rattle.cjc_jvm_semantics.specs.LowerScript.Sorts.{Signature, signature_of}
+use Rattle.cjc_ncode.specs.LowerCardSemantics.Bytecode.Arguments.{widths}
+use Rattle.cjc_types.specs.World.Files.{Files}
+use Rattle.cjc_types.specs.World.Classes.{Class, all_classes, class_named}
+use Rattle.cjc_types.specs.World.Lookup.{find_field, find_method}
 use Rattle.cjc_ncode.specs.declared.narrow.PairRole.TheVariants.{Alone}
 use Rattle.cjc_ncode.specs.declared.narrow.PoolKey.{PoolKey}
 use Rattle.cjc_ncode.specs.declared.narrow.PoolKey.TheVariants as keys

@@ -1,11 +1,11 @@
 -- The methods of a package as their code is selected, by which instance fields have an index of one byte.
 use Rattle.std.specs.Prelude.{List, map, Bool}
-use Rattle.cjc_ncode.specs.Bytes.declared.fault.MemberId.{MemberId}
-use Rattle.cjc_ncode.specs.ClassFile.Code.{CodeTree}
-use Rattle.cjc_ncode.specs.ClassFile.declared.tree.ClassTree.{ClassTree}
-use Rattle.cjc_ncode.specs.ClassFile.declared.tree.MethodTree.{MethodTree}
-use Rattle.cjc_ncode.specs.Bytecode.declared.insn.JInsn.{JInsn}
-use Rattle.cjc_jvm_semantics.specs.World.Files.{Files}
+use Rattle.cjc_types.specs.Bytes.declared.fault.MemberId.{MemberId}
+use Rattle.cjc_types.specs.ClassFile.Code.{CodeTree}
+use Rattle.cjc_types.specs.ClassFile.declared.tree.ClassTree.{ClassTree}
+use Rattle.cjc_types.specs.ClassFile.declared.tree.MethodTree.{MethodTree}
+use Rattle.cjc_types.specs.Bytecode.declared.insn.JInsn.{JInsn}
+use Rattle.cjc_types.specs.World.Files.{Files}
 use Rattle.cjc_ncode.specs.declared.narrow.NMethod.{NMethod}
 use Rattle.cjc_narrow.specs.Rows.Selected.{selected_code}
 use Rattle.cjc_narrow.specs.Written.Rows.{rows_by}

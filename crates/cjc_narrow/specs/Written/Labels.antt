@@ -1,7 +1,7 @@
 -- Places of what is written, for offsets of the class file.
 use Rattle.std.specs.Prelude.{ℕ, List, get_or, nat_lt}
 use Rattle.std.specs.List.{prefix_len}
-use Rattle.cjc_ncode.specs.Bytecode.declared.insn.JInsn.{JInsn}
+use Rattle.cjc_types.specs.Bytecode.declared.insn.JInsn.{JInsn}
 
 -- a method's instructions, and how many instructions are written before each and at the end of all
 pub record Labels : Type 0 where

@@ -2,7 +2,7 @@
 
 ghost use Rattle.std.specs.Prelude.{◌≡◌, option_map, slice_get};
 ghost use Rattle.std.specs.List.{flat_map};
-ghost use Rattle.cjc_jvm_semantics.specs.World.Classes.{all_classes};
+ghost use Rattle.cjc_types.specs.World.Classes.{all_classes};
 ghost use Rattle.cjc_jvm_semantics.specs.OnePackage.{constant_at, constant_in, exported_constant};
 ghost use Rattle.cjc_narrow.specs.Rows.Resolved.{constant_named};
 

@@ -2,9 +2,9 @@
 //! instruction.
 
 ghost use Rattle.std.specs.Prelude.{◌≡◌, option_map, slice_get};
-ghost use Rattle.cjc_jvm_semantics.specs.World.Classes.{all_classes};
-ghost use Rattle.cjc_jvm_semantics.specs.World.Rules.{members};
-ghost use Rattle.cjc_jvm_semantics.specs.World.Working.Known.{class_of};
+ghost use Rattle.cjc_types.specs.World.Classes.{all_classes};
+ghost use Rattle.cjc_types.specs.World.Rules.{members};
+ghost use Rattle.cjc_types.specs.World.Working.Known.{class_of};
 ghost use Rattle.cjc_narrow.specs.Rows.Resolved.{field_found, method_found};
 ghost use Rattle.cjc_narrow.specs.Rows.Working.Hits.{hit_of};
 

@@ -1,7 +1,7 @@
 //! What names in code stand for, by the look-ups of the world. Knows no instruction.
 
 ghost use Rattle.std.specs.Prelude.{◌≡◌, option_map, IfOk};
-ghost use Rattle.cjc_jvm_semantics.specs.World.Classes.{all_classes, class_named};
+ghost use Rattle.cjc_types.specs.World.Classes.{all_classes, class_named};
 ghost use Rattle.cjc_jvm_semantics.specs.OnePackage.{of_class};
 ghost use Rattle.cjc_narrow.specs.Rows.Resolved.{by_owner, method_found, resolved_field, resolved_method, special_by};
 ghost use Rattle.cjc_narrow.specs.Rows.Resolved.{virtual_by};

@@ -2,7 +2,7 @@
 //! code.
 
 ghost use Rattle.std.specs.Prelude.{◌≡◌, ◌+◌, ◌<◌, ◌≤◌, ◌^◌, ◌++◌, ℕ, length, replicate, slice_get, Some, true, OnOk};
-ghost use Rattle.cjc_ncode.specs.Bytecode.declared.insn.JInsn.{JInsn as Insn};
+ghost use Rattle.cjc_types.specs.Bytecode.declared.insn.JInsn.{JInsn as Insn};
 ghost use Rattle.cjc_ncode.specs.Written.{accessed, on_this, written, written_as, written_open};
 ghost use Rattle.cjc_narrow.specs.Written.Labels.{place_of};
 ghost use Rattle.cjc_narrow.specs.Written.Operands.{CanBeSaid};

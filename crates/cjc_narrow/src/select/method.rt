@@ -1,7 +1,7 @@
 //! The narrow code of a method: its instructions, where they come from, its handlers and its numbers.
 
 ghost use Rattle.std.specs.Prelude.{◌≡◌, ◌<◌, ◌^◌, ℕ, length, slice_get, Some, true, IfOk};
-ghost use Rattle.cjc_ncode.specs.Bytecode.declared.insn.JInsn.{JInsn as Insn};
+ghost use Rattle.cjc_types.specs.Bytecode.declared.insn.JInsn.{JInsn as Insn};
 ghost use Rattle.cjc_types.specs.Flow.{body_of};
 ghost use Rattle.cjc_types.specs.Marks.{marks_of};
 ghost use Rattle.cjc_narrow.specs.Rows.Resolved.{argument_words, resolution};

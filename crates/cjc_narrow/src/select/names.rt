@@ -1,11 +1,11 @@
 //! What is written for instructions that name a field or a method, by the look-ups of the world. Knows no label.
 
 ghost use Rattle.std.specs.Prelude.{◌≡◌, ◌++◌, ◌∷◌, [], IfOk, OnOk};
-ghost use Rattle.cjc_ncode.specs.Bytecode.Jvm as jvm;
+ghost use Rattle.cjc_types.specs.Bytecode.Jvm as jvm;
 ghost use Rattle.cjc_ncode.specs.declared.narrow.NInsn.TheVariants.{Named};
 ghost use Rattle.cjc_ncode.specs.declared.narrow.PoolKey.TheVariants as keys;
 ghost use Rattle.cjc_ncode.specs.Written.{call_by, called, field_access, nargs_of, static_by, this_access};
-ghost use Rattle.cjc_jvm_semantics.specs.Script.Sorts.{field_sort};
+ghost use Rattle.cjc_jvm_semantics.specs.LowerScript.Sorts.{field_sort};
 ghost use Rattle.cjc_narrow.specs.Keys.Index.{index_of};
 ghost use Rattle.cjc_narrow.specs.Written.Operands.{IsByte};
 ghost use Rattle.cjc_narrow.specs.Select.Working.Names.{is_one_byte, resolution_of};

@@ -4,7 +4,7 @@
 ghost use Rattle.std.specs.Prelude.{◌≡◌, ◌∷◌, ◌<◌, ◌^◌, ◌||◌, ◌&&◌, true, false, List, drop, get_or, length, IfOk};
 ghost use Rattle.std.specs.List.{list_any};
 ghost use Rattle.cjc_types.specs.Flow.{Body};
-ghost use Rattle.cjc_types.specs.LowerFixpoint.Kept.{IsAscending};
+ghost use Rattle.cjc_types.specs.Fixpoint.Kept.{IsAscending};
 ghost use Rattle.cjc_types.specs.Marks.{marks_of};
 ghost use Rattle.cjc_narrow.specs.Pairs.Roles.{access_kind, any_stores, differs, first_role, is_joined, is_open};
 ghost use Rattle.cjc_narrow.specs.Pairs.Roles.{is_taken};

@@ -3,10 +3,10 @@
 //! of it.
 
 ghost use Rattle.std.specs.Prelude.{◌≡◌, if◌then◌else◌, ◌<◌, ◌≤◌, ◌^◌, ℕ, List, map, IfOk};
-ghost use Rattle.cjc_ncode.specs.CapRead.Card as card;
-ghost use Rattle.cjc_ncode.specs.Bytes.Spots.{desc_of};
-ghost use Rattle.cjc_jvm_semantics.specs.Script.Sorts.{field_sort, signature_of, sort_by, sort_of};
-ghost use Rattle.cjc_ncode.specs.CardSemantics.Bytecode.Arguments.{width, widths};
+ghost use Rattle.cjc_jvm_semantics.specs.CapRead.Card as card;
+ghost use Rattle.cjc_types.specs.Bytes.Spots.{desc_of};
+ghost use Rattle.cjc_jvm_semantics.specs.LowerScript.Sorts.{field_sort, signature_of, sort_by, sort_of};
+ghost use Rattle.cjc_ncode.specs.LowerCardSemantics.Bytecode.Arguments.{width, widths};
 ghost use Rattle.cjc_ncode.specs.Written.{behind_reference, field_access, static_access, this_access, words_by};
 
 use cjc_ncode::capread::card;

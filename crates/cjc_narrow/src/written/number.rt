@@ -1,7 +1,7 @@
 //! Numbers that are pushed. Knows no instruction of class files.
 
 ghost use Rattle.std.specs.Prelude.{◌≡◌, ◌∷◌, []};
-ghost use Rattle.cjc_ncode.specs.Range.Words.{low_word};
+ghost use Rattle.cjc_types.specs.Range.Words.{low_word};
 ghost use Rattle.cjc_ncode.specs.Written.{pushed, pushed_word};
 
 use cjc_ncode::NInsn;

@@ -2,7 +2,7 @@
 
 ghost use Rattle.std.specs.Prelude.{◌≡◌, ◌+◌, ◌<◌, ◌≤◌, ℕ, length, if◌then◌else◌, nat_lt, IfOk};
 ghost use Rattle.std.specs.List.{prefix_len};
-ghost use Rattle.cjc_jvm_semantics.specs.Script.Sorts.{shape_named};
+ghost use Rattle.cjc_jvm_semantics.specs.LowerScript.Sorts.{shape_named};
 ghost use Rattle.cjc_ncode.specs.Written.{Resolution, place_in, reached, type_test};
 ghost use Rattle.cjc_narrow.specs.Written.Labels.{place_of};
 ghost use Rattle.cjc_narrow.specs.Written.Operands.{IsAscending};

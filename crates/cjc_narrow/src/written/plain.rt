@@ -1,8 +1,8 @@
 //! What is written for instructions that name no member. Called by whoever selects code.
 
 ghost use Rattle.std.specs.Prelude.{◌≡◌, ◌≤◌, ◌++◌, ◌∷◌, ◌==◌, if◌then◌else◌, [], false, OnOk};
-ghost use Rattle.cjc_ncode.specs.CapRead.Card as card;
-ghost use Rattle.cjc_ncode.specs.Bytecode.Jvm as jvm;
+ghost use Rattle.cjc_jvm_semantics.specs.CapRead.Card as card;
+ghost use Rattle.cjc_types.specs.Bytecode.Jvm as jvm;
 ghost use Rattle.cjc_ncode.specs.declared.narrow.NInsn.TheVariants.{Inc, Named, Op};
 ghost use Rattle.cjc_ncode.specs.declared.narrow.PoolKey.TheVariants as keys;
 ghost use Rattle.cjc_ncode.specs.Written.{Resolution, is_byte, local, written};

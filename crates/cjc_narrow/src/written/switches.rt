@@ -1,9 +1,9 @@
 //! Switches: the cases within 16 bits. Called by whoever writes instructions.
 
 ghost use Rattle.std.specs.Prelude.{◌≡◌, ◌++◌, pos, IfOk, OnOk};
-ghost use Rattle.cjc_ncode.specs.CapRead.Card as card;
+ghost use Rattle.cjc_jvm_semantics.specs.CapRead.Card as card;
 ghost use Rattle.std.specs.List.{list_any};
-ghost use Rattle.cjc_ncode.specs.CardSemantics.Bytecode.Numbers.{is_word};
+ghost use Rattle.cjc_ncode.specs.LowerCardSemantics.Bytecode.Numbers.{is_word};
 ghost use Rattle.cjc_ncode.specs.Written.{low_of, pair_cases, switched, table_cases};
 ghost use Rattle.cjc_narrow.specs.Written.Working.Switches.{any_word, case_if, next_value};
 ghost use Rattle.cjc_narrow.specs.Written.Labels.{place_of};

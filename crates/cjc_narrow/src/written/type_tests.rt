@@ -2,8 +2,8 @@
 
 ghost use Rattle.std.specs.Prelude.{◌≡◌, ◌∷◌, ℕ, []};
 ghost use Rattle.std.specs.Prelude.{IfOk, OnOk, ◌++◌};
-ghost use Rattle.cjc_ncode.specs.Bytes.Spots.{part_of};
-ghost use Rattle.cjc_jvm_semantics.specs.Script.Sorts.{array_by, shape_named};
+ghost use Rattle.cjc_types.specs.Bytes.Spots.{part_of};
+ghost use Rattle.cjc_jvm_semantics.specs.LowerScript.Sorts.{array_by, shape_named};
 ghost use Rattle.cjc_ncode.specs.Written.{type_test};
 ghost use Rattle.cjc_narrow.specs.Written.Working.Tests.{test_by};
 

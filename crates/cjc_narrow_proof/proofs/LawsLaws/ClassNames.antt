@@ -8,8 +8,8 @@ use Rattle.std.proofs.lemmas.Bool.{eqb-true}
 use Rattle.cjc_bytes.specs.Descriptor.{IsClassName, IsName, inside, is_name_byte, last, more, simple}
 use Rattle.cjc_bytes.proofs.Lists.{bytes_true}
 use Rattle.cjc_bytes.proofs.Bools.{both_front, both_back}
-use Rattle.cjc_vtable.specs.ClassOrder.Classes.Numbers.{class_count}
-use Rattle.cjc_subset.specs.ClassFile.declared.tree.ClassTree.{ClassTree}
+use Rattle.cjc_vtable.specs.LowerClassOrder.Classes.Numbers.{class_count}
+use Rattle.cjc_code.specs.ClassFile.declared.tree.ClassTree.{ClassTree}
 use Rattle.cjc_narrow_proof.specs.Laws.Unbroken.{AreSpelt}
 use Rattle.cjc_narrow_proof.proofs.LawsLaws.Own.{own_kept}
 use Rattle.cjc_vtable.proofs.Filed.{IsFiled, filed, in_class_file, in_export_file}

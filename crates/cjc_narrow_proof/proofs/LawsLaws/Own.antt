@@ -12,9 +12,9 @@ use Rattle.cjc_bytes.specs.declared.order.FileKey.{FileKey}
 use Rattle.cjc_bytes.specs.declared.order.FileKey.TheVariants as keys
 use Rattle.cjc_bytes.specs.declared.settings.FileLine.{FileLine}
 use Rattle.cjc_bytes.proofs.Lists.{name_is, none_left, none_right}
-use Rattle.cjc_subset.specs.ClassFile.declared.tree.ClassTree.{ClassTree}
-use Rattle.cjc_subset.specs.ClassFile.declared.tree.MethodTree.{MethodTree}
-use Rattle.cjc_vtable.specs.ClassOrder.Classes.Numbers.{class_count}
+use Rattle.cjc_code.specs.ClassFile.declared.tree.ClassTree.{ClassTree}
+use Rattle.cjc_code.specs.ClassFile.declared.tree.MethodTree.{MethodTree}
+use Rattle.cjc_vtable.specs.LowerClassOrder.Classes.Numbers.{class_count}
 use Rattle.cjc_jvm_semantics.specs.OnePackage.{method_hit}
 use Rattle.cjc_narrow.specs.Rows.Package.{flags_of}
 use Rattle.cjc_narrow.specs.Rows.Resolved.{method_found}

@@ -9,11 +9,11 @@ use Rattle.std.specs.Prelude.{if◌then◌else◌}
 use Rattle.std.proofs.lemmas.Bool.{ltb-true, false_from_ne_true}
 use Rattle.std.proofs.lemmas.Int.{ints}
 use Rattle.std.proofs.lemmas.Option.{same_Some, slice_get-map, slice_get_within, get_or_from_slice_get}
-use Rattle.cjc_ncode.specs.CapRead.Decode.{IsWithin, negative, positive}
-use Rattle.cjc_subset.specs.ClassFile.Code.{CodeTree}
-use Rattle.cjc_subset.specs.ClassFile.declared.tree.ClassTree.{ClassTree}
-use Rattle.cjc_subset.specs.ClassFile.declared.tree.MethodTree.{MethodTree}
-use Rattle.cjc_subset.specs.ClassFile.PoolItem.{PoolItem}
+use Rattle.cjc_card_semantics.specs.CapRead.Decode.{IsWithin, negative, positive}
+use Rattle.cjc_code.specs.ClassFile.Code.{CodeTree}
+use Rattle.cjc_code.specs.ClassFile.declared.tree.ClassTree.{ClassTree}
+use Rattle.cjc_code.specs.ClassFile.declared.tree.MethodTree.{MethodTree}
+use Rattle.cjc_code.specs.ClassFile.PoolItem.{PoolItem}
 use Rattle.cjc_code.specs.Cut.{cut}
 use Rattle.cjc_code.specs.Named.{cases, op_of}
 use Rattle.cjc_code.specs.Numbers.{i16_of, second}

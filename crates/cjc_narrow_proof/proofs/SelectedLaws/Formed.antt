@@ -11,9 +11,9 @@ use Rattle.cjc_range.specs.Words.{low_word}
 use Rattle.cjc_code.specs.declared.insn.JInsn.{JInsn}
 use Rattle.cjc_code.specs.declared.insn.JOp.{JOp}
 use Rattle.cjc_code.specs.declared.insn.JOp.TheVariants as jop
-use Rattle.cjc_emit.specs.Layout.Forms.{HasForm, IsTest, a_class, numbers, references, bare, push, local, increase}
-use Rattle.cjc_emit.specs.Layout.Forms.{words}
-use Rattle.cjc_emit.specs.Layout.Forms.{jump, range, lookup, named, by_interface, new_array, casts, asks}
+use Rattle.cjc_emit.specs.LowerLayout.Forms.{HasForm, IsTest, a_class, numbers, references, bare, push, local, increase}
+use Rattle.cjc_emit.specs.LowerLayout.Forms.{words}
+use Rattle.cjc_emit.specs.LowerLayout.Forms.{jump, range, lookup, named, by_interface, new_array, casts, asks}
 use Rattle.cjc_ncode.specs.Lowering.Laid as Laid
 use Rattle.cjc_ncode.specs.Lowering.Laid.{IsFormed, Tests}
 use Rattle.cjc_ncode.specs.Lowering.Naming.{Holds, IsClass, Naming}

@@ -11,9 +11,9 @@ use Rattle.cjc_bytes.proofs.BrokenRules.{not_broken, each_at}
 use Rattle.cjc_bytes.proofs.Lists.{none_left, none_right}
 use Rattle.cjc_bytes.proofs.Gets.{any_off}
 use Rattle.cjc_bytes.proofs.Bools.{or_left, or_right}
-use Rattle.cjc_subset.specs.ClassFile.Code.{CodeTree}
-use Rattle.cjc_subset.specs.ClassFile.declared.tree.ClassTree.{ClassTree}
-use Rattle.cjc_subset.specs.ClassFile.declared.tree.MethodTree.{MethodTree}
+use Rattle.cjc_code.specs.ClassFile.Code.{CodeTree}
+use Rattle.cjc_code.specs.ClassFile.declared.tree.ClassTree.{ClassTree}
+use Rattle.cjc_code.specs.ClassFile.declared.tree.MethodTree.{MethodTree}
 use Rattle.cjc_code.specs.declared.insn.JInsn.{JInsn}
 use Rattle.cjc_code.specs.declared.insn.JOp.{JOp}
 use Rattle.cjc_code.specs.declared.insn.JOp.TheVariants as jop

@@ -3,7 +3,7 @@ use Rattle.std.proofs.Common.{◌≡◌, ℕ, suc, ◌+◌, ◌<◌, refl, Bool,
 use Rattle.std.specs.Prelude.{Option, Some, None, map, filter, flat_map, nat_le, slice_get, ◌==◌, if◌then◌else◌, ℤ, pos}
 use Rattle.std.specs.Prelude.{negsuc, ◌+ℤ◌}
 use Rattle.std.specs.List.{Contains}
-use Rattle.cjc_narrow.specs.Fixpoint.Working.Edges.{contains_head, contains_tail}
+use Rattle.cjc_types.specs.Fixpoint.Working.Edges.{contains_head, contains_tail}
 use Rattle.cjc_bytes.specs.declared.fault.MemberId.{MemberId}
 use Rattle.cjc_script.specs.Sorts.{Shape, OfClass, OfNumbers, OfReferences, Booleans, Bytes, Shorts, Ints, shape_named}
 use Rattle.cjc_card_semantics.specs.Bytecode.Numbers.{is_word}
@@ -20,7 +20,7 @@ use Rattle.cjc_ncode.specs.Written.{is_load, written_for}
 use Rattle.cjc_ncode.proofs.WrittenCases.{written_cases}
 use Rattle.cjc_ncode.specs.Written.{pushed, pushed_word, static_by, switched, table_cases, type_test, written}
 use Rattle.cjc_types.specs.Steps.{case_target, goes_on, targets}
-use Rattle.cjc_emit.specs.Layout.Sizes.{AllLead, CasesLead, Leads}
+use Rattle.cjc_emit.specs.LowerLayout.Sizes.{AllLead, CasesLead, Leads}
 
 -- ---- what is not written goes on
 

@@ -7,9 +7,9 @@ use Rattle.cjc_bytes.specs.Order.{file_of}
 use Rattle.cjc_bytes.specs.declared.settings.Settings.{Settings}
 use Rattle.cjc_bytes.proofs.BrokenRules.{not_broken, each_at}
 use Rattle.cjc_bytes.proofs.Lists.{none_left, none_right}
-use Rattle.cjc_subset.specs.ClassFile.Code.{CodeTree}
-use Rattle.cjc_subset.specs.ClassFile.declared.tree.ClassTree.{ClassTree}
-use Rattle.cjc_subset.specs.ClassFile.declared.tree.MethodTree.{MethodTree}
+use Rattle.cjc_code.specs.ClassFile.Code.{CodeTree}
+use Rattle.cjc_code.specs.ClassFile.declared.tree.ClassTree.{ClassTree}
+use Rattle.cjc_code.specs.ClassFile.declared.tree.MethodTree.{MethodTree}
 use Rattle.cjc_code.specs.declared.method_code.MethodCode.{MethodCode}
 use Rattle.cjc_subset.specs.Checks.{check_breaks, class_breaks, code_breaks, list_breaks, method_breaks}
 use Rattle.cjc_subset.specs.Checks.{field_breaks, own_breaks}

@@ -6,11 +6,11 @@ use Rattle.std.specs.List.{Contains}
 use Rattle.std.specs.Prelude.{◌&&◌, ◌+ℤ◌, ◌-ℤ◌, ◌≤ℤ◌, filter, map, if◌then◌else◌}
 use Rattle.std.proofs.lemmas.Int.{ints}
 use Rattle.cjc_card_semantics.specs.Bytecode.Numbers.{is_word}
-use Rattle.cjc_ncode.specs.CapRead.Decode.{AllFit, IsWithin, matches_ascend, more, negative, none, pairs}
-use Rattle.cjc_ncode.specs.CapRead.Decode.{positive, up_to}
-use Rattle.cjc_ncode.specs.CapRead.Opcodes.{Signed2}
+use Rattle.cjc_card_semantics.specs.CapRead.Decode.{AllFit, IsWithin, matches_ascend, more, negative, none, pairs}
+use Rattle.cjc_card_semantics.specs.CapRead.Decode.{positive, up_to}
+use Rattle.cjc_card_semantics.specs.CapRead.Opcodes.{Signed2}
 use Rattle.cjc_code.specs.declared.insn.JCase.{JCase}
-use Rattle.cjc_narrow.specs.Fixpoint.Working.Edges.{contains_head, contains_tail}
+use Rattle.cjc_types.specs.Fixpoint.Working.Edges.{contains_head, contains_tail}
 use Rattle.cjc_ncode.specs.Lowering.Laid.{matches, offsets}
 use Rattle.cjc_ncode.specs.Lowering.Naming.{Naming}
 use Rattle.cjc_ncode.specs.declared.narrow.NCase.{NCase}

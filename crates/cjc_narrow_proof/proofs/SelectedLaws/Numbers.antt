@@ -9,7 +9,7 @@ use Rattle.cjc_bytes.specs.declared.fault.MemberId.{MemberId}
 use Rattle.cjc_script.specs.Sorts.{Sort, Boolean, Byte as ByteSort, Short, Int, Reference, NoValue, Shape, OfClass}
 use Rattle.cjc_script.specs.Sorts.{OfNumbers, OfReferences, Booleans, Bytes, Shorts, Ints, field_sort, shape_named}
 use Rattle.cjc_range.specs.Words.{low_word}
-use Rattle.cjc_ncode.specs.CapRead.Opcodes.{Fields, Index1, Index2, form, forms}
+use Rattle.cjc_card_semantics.specs.CapRead.Opcodes.{Fields, Index1, Index2, form, forms}
 use Rattle.cjc_code.specs.declared.insn.JInsn.{JInsn}
 use Rattle.cjc_code.specs.declared.insn.JOp.{JOp}
 use Rattle.cjc_code.specs.declared.insn.JOp.TheVariants as jop
@@ -34,9 +34,9 @@ use Rattle.cjc_narrow.specs.Pairs.Roles.{keeps_this, role_in, roles_of, with_pai
 use Rattle.cjc_narrow.specs.Written.Rows.{has_rows}
 use Rattle.cjc_types.specs.Flow.{body_of}
 use Rattle.cjc_types.specs.Marks.{marks_of}
-use Rattle.cjc_subset.specs.ClassFile.Code.{CodeTree}
-use Rattle.cjc_subset.specs.ClassFile.declared.tree.ClassTree.{ClassTree}
-use Rattle.cjc_subset.specs.ClassFile.declared.tree.MethodTree.{MethodTree}
+use Rattle.cjc_code.specs.ClassFile.Code.{CodeTree}
+use Rattle.cjc_code.specs.ClassFile.declared.tree.ClassTree.{ClassTree}
+use Rattle.cjc_code.specs.ClassFile.declared.tree.MethodTree.{MethodTree}
 use Rattle.cjc_ncode.specs.Written.{pushed_word, static_access, static_by, switched, table_cases, type_test, written}
 use Rattle.cjc_narrow.specs.Select.Working.Names.{is_one_byte}
 use Rattle.cjc_narrow.proofs.SelectLaws.Near.{near_by_index}

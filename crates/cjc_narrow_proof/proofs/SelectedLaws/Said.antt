@@ -14,10 +14,10 @@ use Rattle.cjc_script.specs.Sorts.{OfNumbers, OfReferences, Booleans, Bytes, Sho
 use Rattle.cjc_card_semantics.specs.Bytecode.Meanings.{meaning}
 use Rattle.cjc_range.specs.Words.{low_word}
 use Rattle.cjc_range.proofs.WordsLaws.Words.{low_word_fits}
-use Rattle.cjc_ncode.specs.CapRead.Decode.{AllFit, IsWithin, below, matches_ascend, more, negative, none}
-use Rattle.cjc_ncode.specs.CapRead.Decode.{positive}
-use Rattle.cjc_ncode.specs.CapRead.Opcodes.{Byte, Fields, Index1, Index2, Lookup, Signed1, Signed2, Table}
-use Rattle.cjc_ncode.specs.CapRead.Opcodes.{form, forms}
+use Rattle.cjc_card_semantics.specs.CapRead.Decode.{AllFit, IsWithin, below, matches_ascend, more, negative, none}
+use Rattle.cjc_card_semantics.specs.CapRead.Decode.{positive}
+use Rattle.cjc_card_semantics.specs.CapRead.Opcodes.{Byte, Fields, Index1, Index2, Lookup, Signed1, Signed2, Table}
+use Rattle.cjc_card_semantics.specs.CapRead.Opcodes.{form, forms}
 use Rattle.cjc_code.specs.declared.insn.JInsn.{JInsn}
 use Rattle.cjc_code.specs.declared.insn.JOp.{JOp}
 use Rattle.cjc_code.specs.declared.insn.JOp.TheVariants as jop

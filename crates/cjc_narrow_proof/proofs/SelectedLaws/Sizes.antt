@@ -9,7 +9,7 @@ use Rattle.cjc_script.specs.Sorts.{Sort, Boolean, Byte, Short, Int, Reference, N
 use Rattle.cjc_script.specs.Sorts.{OfReferences, Booleans, Bytes, Shorts, Ints, field_sort, shape_named}
 use Rattle.cjc_card_semantics.specs.Bytecode.Numbers.{is_word}
 use Rattle.cjc_range.specs.Words.{low_word}
-use Rattle.cjc_ncode.specs.CapRead.Opcodes.{form, forms}
+use Rattle.cjc_card_semantics.specs.CapRead.Opcodes.{form, forms}
 use Rattle.cjc_code.specs.declared.insn.JCase.{JCase}
 use Rattle.cjc_code.specs.declared.insn.JInsn.{JInsn}
 use Rattle.cjc_code.specs.declared.insn.JOp.{JOp}
@@ -23,7 +23,7 @@ use Rattle.cjc_ncode.proofs.WrittenCases.{written_cases}
 use Rattle.cjc_ncode.specs.Written.{leaving, local, low_of, nargs_of, on_stack, pair_case, pair_cases, pushed}
 use Rattle.cjc_ncode.specs.Written.{pushed_word, static_access, static_by, switched, table_cases, type_test, widest}
 use Rattle.cjc_ncode.specs.Written.{widest_sum, written}
-use Rattle.cjc_emit.specs.Layout.Sizes.{insn_size, size_by, widest_size}
+use Rattle.cjc_emit.specs.LowerLayout.Sizes.{insn_size, size_by, widest_size}
 
 -- the bytes of instructions, with every jump wide
 abbrev pub wide_sum : List NInsn → ℕ

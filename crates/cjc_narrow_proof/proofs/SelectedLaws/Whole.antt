@@ -7,14 +7,14 @@ use Rattle.std.specs.List.{Contains}
 use Rattle.std.proofs.lemmas.Bool.{ltb-true, lt-ltb, le-leb}
 use Rattle.std.proofs.lemmas.List.Elements.{Contains-append_left, Contains-append_right}
 use Rattle.std.proofs.lemmas.Option.{slice_get_within}
-use Rattle.cjc_narrow.specs.Fixpoint.Tables.{HasRow}
-use Rattle.cjc_narrow.specs.Fixpoint.Working.Edges.{contains_head, contains_tail}
+use Rattle.cjc_types.specs.Fixpoint.Tables.{HasRow}
+use Rattle.cjc_types.specs.Fixpoint.Working.Edges.{contains_head, contains_tail}
 use Rattle.cjc_bytes.specs.declared.fault.MemberId.{MemberId}
 use Rattle.cjc_bytes.proofs.Gets.{get_inside}
-use Rattle.cjc_subset.specs.ClassFile.Code.{CodeTree}
-use Rattle.cjc_subset.specs.ClassFile.declared.tree.Catch.{Catch}
-use Rattle.cjc_subset.specs.ClassFile.declared.tree.ClassTree.{ClassTree}
-use Rattle.cjc_subset.specs.ClassFile.declared.tree.MethodTree.{MethodTree}
+use Rattle.cjc_code.specs.ClassFile.Code.{CodeTree}
+use Rattle.cjc_code.specs.ClassFile.declared.tree.Catch.{Catch}
+use Rattle.cjc_code.specs.ClassFile.declared.tree.ClassTree.{ClassTree}
+use Rattle.cjc_code.specs.ClassFile.declared.tree.MethodTree.{MethodTree}
 use Rattle.cjc_code.specs.declared.insn.JInsn.{JInsn}
 use Rattle.cjc_code.specs.declared.method_code.MethodCode.{MethodCode}
 use Rattle.cjc_world.specs.Files.{Files}
@@ -33,9 +33,9 @@ use Rattle.cjc_types.specs.TypeLaws.Closed.{IsClosedTable, Reaches}
 use Rattle.cjc_types.specs.TypeLaws.Places.{HasPlace}
 use Rattle.cjc_types.proofs.TypeLaws.Lowered.{least_closed}
 use Rattle.cjc_types.proofs.TypeLaws.Standing.{handler_placed, next_there, target_placed}
-use Rattle.cjc_emit.specs.Layout.Handlers.{AllLie}
-use Rattle.cjc_emit.specs.Layout.Layouts.{IsWhole}
-use Rattle.cjc_emit.specs.Layout.Sizes.{AllLead}
+use Rattle.cjc_emit.specs.LowerLayout.Handlers.{AllLie}
+use Rattle.cjc_emit.specs.LowerLayout.Layouts.{IsWhole}
+use Rattle.cjc_emit.specs.LowerLayout.Sizes.{AllLead}
 use Rattle.cjc_narrow_proof.proofs.SelectedLaws.Cuts.{few, stack_opcode}
 use Rattle.cjc_narrow_proof.proofs.SelectedLaws.Places.{all_sizes, between, place_below, place_low, place_up}
 use Rattle.cjc_narrow_proof.proofs.SelectedLaws.Places.{reached_at, reached_from, size, sizes}

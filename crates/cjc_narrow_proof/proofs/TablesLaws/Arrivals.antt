@@ -11,10 +11,10 @@ use Rattle.cjc_range.specs.Span.{Span, Within, IsWord, full}
 use Rattle.cjc_range.specs.Landmarks.{round_row}
 use Rattle.cjc_range.proofs.Order.{within_refl, within_trans, word_full}
 use Rattle.cjc_range.proofs.Rounding.{round_within}
-use Rattle.cjc_subset.specs.ClassFile.declared.tree.Catch.{Catch}
+use Rattle.cjc_code.specs.ClassFile.declared.tree.Catch.{Catch}
 use Rattle.cjc_code.specs.declared.insn.JInsn.{JInsn}
-use Rattle.cjc_narrow.specs.Fixpoint.declared.flow.Edge.{Edge}
-use Rattle.cjc_narrow.specs.Fixpoint.Tables.{HasRow, Covers}
+use Rattle.cjc_types.specs.Fixpoint.declared.flow.Edge.{Edge}
+use Rattle.cjc_types.specs.Fixpoint.Tables.{HasRow, Covers}
 use Rattle.cjc_world.specs.Classes.{Class}
 use Rattle.cjc_types.specs.declared.cell.Cell.{Cell}
 use Rattle.cjc_types.specs.declared.cell.Cell.TheVariants.{Number, Refs}

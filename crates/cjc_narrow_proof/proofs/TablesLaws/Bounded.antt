@@ -4,7 +4,7 @@ use Rattle.std.proofs.lemmas.Int.{ints}
 use Rattle.cjc_range.specs.Span.{Span, Within}
 use Rattle.cjc_range.proofs.Order.{le_cases}
 use Rattle.cjc_code.specs.declared.insn.JInsn.{JInsn}
-use Rattle.cjc_narrow.specs.Fixpoint.Tables.{HasRow}
+use Rattle.cjc_types.specs.Fixpoint.Tables.{HasRow}
 use Rattle.cjc_types.specs.declared.state.State.{State}
 use Rattle.cjc_types.specs.Search.{cells_of}
 use Rattle.cjc_intervals.specs.Frames.{RangeState, spans_of}

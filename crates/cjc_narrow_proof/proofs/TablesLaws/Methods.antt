@@ -5,10 +5,10 @@ use Rattle.std.specs.Prelude.{nat_le, nat_lt, not, codes, if◌then◌else◌}
 use Rattle.std.specs.List.{Contains, position_or_len}
 use Rattle.std.proofs.lemmas.Bool.Decides.{nat_tests}
 use Rattle.std.proofs.lemmas.List.Elements.{Contains-append_left, Contains-append_right}
-use Rattle.cjc_subset.specs.ClassFile.declared.tree.Catch.{Catch}
+use Rattle.cjc_code.specs.ClassFile.declared.tree.Catch.{Catch}
 use Rattle.cjc_code.specs.declared.insn.JInsn.{JInsn}
-use Rattle.cjc_narrow.specs.Fixpoint.Tables.{HasRow}
-use Rattle.cjc_narrow.specs.Fixpoint.Working.Edges.{contains_head, contains_tail}
+use Rattle.cjc_types.specs.Fixpoint.Tables.{HasRow}
+use Rattle.cjc_types.specs.Fixpoint.Working.Edges.{contains_head, contains_tail}
 use Rattle.cjc_script.specs.Sorts.{Shape, OfClass, shape_name, shape_named}
 use Rattle.cjc_world.specs.Classes.{Class}
 use Rattle.cjc_types.specs.declared.state.State.{State}

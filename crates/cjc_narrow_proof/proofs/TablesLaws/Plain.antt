@@ -11,7 +11,7 @@ use Rattle.cjc_range.proofs.Order.{clip_fits}
 use Rattle.cjc_code.specs.declared.insn.JCase.{JCase}
 use Rattle.cjc_code.specs.declared.insn.JOp.{JOp}
 use Rattle.cjc_code.specs.declared.insn.JOp.TheVariants as jop
-use Rattle.cjc_narrow.specs.Fixpoint.Tables.{HasRow}
+use Rattle.cjc_types.specs.Fixpoint.Tables.{HasRow}
 use Rattle.cjc_script.specs.declared.value.Value.{Value}
 use Rattle.cjc_script.specs.declared.value.Value.TheVariants.{Num, Null, Obj}
 use Rattle.cjc_world.specs.Classes.{Class}
@@ -30,7 +30,7 @@ use Rattle.cjc_ncode.specs.Written.{switched, table_cases, pair_cases, low_of}
 use Rattle.cjc_ncode.specs.ByLabel.{Named}
 use Rattle.cjc_jvm_semantics.specs.Arithmetic.{is_same}
 use Rattle.cjc_jvm_semantics.specs.Effects.{Store, Go, effect, place, case_of, entry_of}
-use Rattle.cjc_narrow.specs.Fixpoint.Working.Edges.{contains_head, contains_tail, contains_cons}
+use Rattle.cjc_types.specs.Fixpoint.Working.Edges.{contains_head, contains_tail, contains_cons}
 use Rattle.cjc_jvm_semantics.specs.Linked.{Method, Linked}
 use Rattle.cjc_intervals.specs.Frames.{StackOf, Cells, Clash, RangeState, spans_of}
 use Rattle.cjc_intervals.specs.Values.{exactly}

@@ -3,10 +3,10 @@ use Rattle.std.specs.Prelude.{◌≡◌, ℕ, List, codes, Option, Some}
 use Rattle.std.specs.List.{Contains}
 use Rattle.cjc_bytes.specs.Descriptor.{IsClassName}
 use Rattle.cjc_bytes.specs.declared.fault.MemberId.{MemberId}
-use Rattle.cjc_subset.specs.ClassFile.Code.{CodeTree}
-use Rattle.cjc_subset.specs.ClassFile.declared.tree.Catch.{Catch}
-use Rattle.cjc_subset.specs.ClassFile.declared.tree.ClassTree.{ClassTree}
-use Rattle.cjc_subset.specs.ClassFile.declared.tree.MethodTree.{MethodTree}
+use Rattle.cjc_code.specs.ClassFile.Code.{CodeTree}
+use Rattle.cjc_code.specs.ClassFile.declared.tree.Catch.{Catch}
+use Rattle.cjc_code.specs.ClassFile.declared.tree.ClassTree.{ClassTree}
+use Rattle.cjc_code.specs.ClassFile.declared.tree.MethodTree.{MethodTree}
 use Rattle.cjc_code.specs.declared.method_code.MethodCode.{MethodCode}
 use Rattle.cjc_script.specs.Sorts.{shape_name, result_by}
 use Rattle.cjc_world.specs.Files.{Files}

@@ -3,8 +3,8 @@ use Rattle.std.specs.Int.RustNames.{int_lt}
 use Rattle.std.specs.List.{Contains}
 use Rattle.std.specs.Prelude.{◌≡◌, ℕ, ◌<◌, ◌≤◌, true, List, [], ◌∷◌, length, unwrap_or, Option, Some}
 use Rattle.cjc_bytes.specs.declared.fault.MemberId.{MemberId}
-use Rattle.cjc_ncode.specs.CapRead.Decode.{IsWithin}
-use Rattle.cjc_ncode.specs.CapRead.Opcodes.{Fields, Form, Index1, form}
+use Rattle.cjc_card_semantics.specs.CapRead.Decode.{IsWithin}
+use Rattle.cjc_card_semantics.specs.CapRead.Opcodes.{Fields, Form, Index1, form}
 use Rattle.cjc_code.specs.declared.insn.JCase.{JCase}
 use Rattle.cjc_code.specs.declared.insn.JOp.{JOp}
 use Rattle.cjc_code.specs.declared.insn.JOp.TheVariants as jop

@@ -4,7 +4,7 @@ use Rattle.std.specs.Prelude.{◌≡◌, ◌<◌, ◌≤◌, ℕ, ◌+◌, Bool,
 use Rattle.std.specs.Prelude.{option_map, ℤ}
 use Rattle.std.specs.List.{Contains}
 use Rattle.cjc_bytes.specs.declared.fault.MemberId.{MemberId}
-use Rattle.cjc_subset.specs.ClassFile.declared.tree.Catch.{Catch}
+use Rattle.cjc_code.specs.ClassFile.declared.tree.Catch.{Catch}
 use Rattle.cjc_code.specs.declared.insn.JInsn.{JInsn}
 use Rattle.cjc_script.specs.Sorts.{Shape, OfClass, shape_name, shape_named, result_by}
 use Rattle.cjc_world.specs.Classes.{Class}
@@ -30,7 +30,7 @@ use Rattle.cjc_narrow_proof.specs.Selection.Tables.{Table, class_of_code}
 use Rattle.cjc_narrow_proof.specs.Tables.Kinds.{kinds, point_at}
 use Rattle.cjc_narrow_proof.specs.Tables.Pairs.{AreInPairs, StandsAlone, with_open}
 use Rattle.cjc_narrow.specs.Pairs.Open.{Open}
-use Rattle.cjc_narrow.specs.Fixpoint.Tables.{HasRow}
+use Rattle.cjc_types.specs.Fixpoint.Tables.{HasRow}
 
 -- what is read of a method, and its tables
 pub record Found : Type 0 where

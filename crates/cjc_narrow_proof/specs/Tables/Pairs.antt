@@ -3,12 +3,12 @@
 use Rattle.std.specs.Prelude.{◌≡◌, ℕ, ◌+◌, suc, List, [], ◌∷◌, slice_get, Option, Some, Bool, true, false, ◌==◌, ℤ}
 use Rattle.std.specs.List.{Contains}
 use Rattle.cjc_bytes.specs.declared.fault.MemberId.{MemberId}
-use Rattle.cjc_subset.specs.ClassFile.declared.tree.Catch.{Catch}
+use Rattle.cjc_code.specs.ClassFile.declared.tree.Catch.{Catch}
 use Rattle.cjc_code.specs.Jvm as jvm
 use Rattle.cjc_code.specs.declared.insn.JInsn.{JInsn}
 use Rattle.cjc_code.specs.declared.insn.JOp.{JOp}
 use Rattle.cjc_code.specs.declared.insn.JOp.TheVariants as jop
-use Rattle.cjc_narrow.specs.Fixpoint.Tables.{HasRow}
+use Rattle.cjc_types.specs.Fixpoint.Tables.{HasRow}
 use Rattle.cjc_types.specs.Steps.{targets}
 use Rattle.cjc_types.specs.Flow.{Body}
 use Rattle.cjc_types.specs.TypeLaws.Places.{IsPlaceOf}

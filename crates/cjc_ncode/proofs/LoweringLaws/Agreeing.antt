@@ -1,8 +1,8 @@
 -- Narrow code of placed methods and components are alike, and so run alike.
 use Rattle.std.proofs.Common.{◌≡◌, ℕ, ◌+◌, refl, ap, sym, subst, ◌∙◌, List}
 use Rattle.std.specs.Prelude.{Option, Some, None, option_map, slice_get}
-use Rattle.cjc_code.specs.LowerBytes.declared.fault.MemberId.{MemberId}
-use Rattle.cjc_card_semantics.specs.LowerScript.Sorts.{Shape, OfClass}
+use Rattle.cjc_code.specs.Bytes.declared.fault.MemberId.{MemberId}
+use Rattle.cjc_card_semantics.specs.Script.Sorts.{Shape, OfClass}
 use Rattle.cjc_card_semantics.specs.Bytecode.Renaming.{option_as, shape_as, Knows, KnownShape, KnownOperation}
 use Rattle.cjc_card_semantics.specs.Bytecode.Machine.{Fetched}
 use Rattle.cjc_card_semantics.specs.Bytecode.Alike.{KnownThing, SettingsAlike, RunsAgree}

@@ -1,7 +1,7 @@
 -- A method begins on the card as its header and Descriptor say.
 use Rattle.std.proofs.Common.{◌≡◌, ◌+◌, ap, sym, ◌∙◌, Bool, ◌++◌, length, append_assoc, add-zero}
 use Rattle.std.specs.Prelude.{Some, option_and_then, option_map}
-use Rattle.cjc_card_semantics.specs.LowerCapRead.MethodHeader.{MethodHeader, method_header}
+use Rattle.cjc_card_semantics.specs.CapRead.MethodHeader.{MethodHeader, method_header}
 use Rattle.cjc_card_semantics.specs.Machine.Loaded.{Part}
 use Rattle.cjc_card_semantics.specs.Machine.Methods.{described, start_at, start_in, start_of}
 use Rattle.cjc_ncode.specs.Lowering.Naming.{Naming}

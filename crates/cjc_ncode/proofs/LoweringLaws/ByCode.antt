@@ -1,8 +1,8 @@
 -- Narrow code of placed methods runs as by code alone.
 use Rattle.std.proofs.Common.{◌≡◌, ℕ, refl, ap, sym, ◌∙◌, List, [], ◌∷◌, map}
 use Rattle.std.specs.Prelude.{Option, Some, None}
-use Rattle.cjc_code.specs.LowerBytes.declared.fault.MemberId.{MemberId}
-use Rattle.cjc_card_semantics.specs.LowerScript.Sorts.{Shape, OfClass, OfNumbers, OfReferences}
+use Rattle.cjc_code.specs.Bytes.declared.fault.MemberId.{MemberId}
+use Rattle.cjc_card_semantics.specs.Script.Sorts.{Shape, OfClass, OfNumbers, OfReferences}
 use Rattle.cjc_card_semantics.specs.Bytecode.Effects.{Arm, Do, Branch, Pick, Touch, Get, Put, GetStatic, PutStatic}
 use Rattle.cjc_card_semantics.specs.Bytecode.Effects.{Call, New, NewNumbers, NewReferences, Cast, Ask, Undone}
 use Rattle.cjc_card_semantics.specs.Bytecode.Renaming.{option_as, shape_as, arm_as, operation_as, object_known}

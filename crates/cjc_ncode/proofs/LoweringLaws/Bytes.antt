@@ -3,7 +3,7 @@ use Rattle.std.proofs.Common.{◌≡◌, ℕ, zero, suc, ◌+◌, ◌-◌, ◌�
 use Rattle.std.proofs.Common.{◌∷◌, ◌++◌, length, drop, append_assoc, zero-add, add-zero}
 use Rattle.std.specs.Prelude.{Some, slice_get, nat_le, if◌then◌else◌}
 use Rattle.std.proofs.lemmas.Bool.Decides.{nat_tests}
-use Rattle.cjc_card_semantics.specs.LowerCapRead.Decode.{Instruction, emitted, size}
+use Rattle.cjc_card_semantics.specs.CapRead.Decode.{Instruction, emitted, size}
 use Rattle.cjc_card_semantics.proofs.CapReadDecoding.{length_emitted}
 use Rattle.cjc_card_semantics.specs.Machine.Loaded.{Part}
 use Rattle.cjc_card_semantics.specs.Machine.Methods.{bytes_from, methods_begin}

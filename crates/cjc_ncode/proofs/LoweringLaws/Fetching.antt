@@ -1,8 +1,8 @@
 -- The instruction of a label is fetched at its offset.
 use Rattle.std.proofs.Common.{◌≡◌, ℕ, suc, ◌+◌, refl, ap, sym, ◌∙◌, arith, Bool, List, ◌++◌, length, drop, append_assoc}
 use Rattle.std.specs.Prelude.{Option, Some, None, option_map, slice_get}
-use Rattle.cjc_code.specs.LowerBytes.declared.fault.MemberId.{MemberId}
-use Rattle.cjc_card_semantics.specs.LowerCapRead.Decode.{size}
+use Rattle.cjc_code.specs.Bytes.declared.fault.MemberId.{MemberId}
+use Rattle.cjc_card_semantics.specs.CapRead.Decode.{size}
 use Rattle.cjc_card_semantics.specs.Bytecode.Machine.{Fetched}
 use Rattle.cjc_card_semantics.specs.Machine.Loaded.{Part}
 use Rattle.cjc_card_semantics.specs.Machine.Methods.{bytes_from, fetched_as, fetch}

@@ -1,9 +1,9 @@
 -- What a laid instruction does is what the narrow one does, by token and offset.
 use Rattle.std.proofs.Common.{◌≡◌, ℕ, refl, sym, ap, ◌∙◌, Bool, true, false, List, [], ◌∷◌, ℤ, pos}
 use Rattle.std.specs.Prelude.{Option, Some, None, option_and_then, option_map, slice_get, map, ◌+ℤ◌}
-use Rattle.cjc_code.specs.LowerBytes.declared.fault.MemberId.{MemberId}
-use Rattle.cjc_card_semantics.specs.LowerCapRead.Decode.{Instruction}
-use Rattle.cjc_card_semantics.specs.LowerScript.Sorts.{Element, Booleans, Bytes, Shorts, Ints}
+use Rattle.cjc_code.specs.Bytes.declared.fault.MemberId.{MemberId}
+use Rattle.cjc_card_semantics.specs.CapRead.Decode.{Instruction}
+use Rattle.cjc_card_semantics.specs.Script.Sorts.{Element, Booleans, Bytes, Shorts, Ints}
 use Rattle.cjc_card_semantics.specs.Bytecode.Calculations.{Calculation, Test}
 use Rattle.cjc_card_semantics.specs.Bytecode.Effects.{Operation, Branch, Pick, Get, Put, GetStatic, PutStatic, Call}
 use Rattle.cjc_card_semantics.specs.Bytecode.Effects.{New, NewNumbers, NewReferences, Cast, Ask}

@@ -2,8 +2,8 @@
 use Rattle.std.proofs.Common.{◌≡◌, ℕ, zero, suc, ◌+◌, ◌<◌, ◌≤◌, refl, ap, ◌∙◌, arith, Bool, List, [], ◌∷◌, length, ℤ}
 use Rattle.std.proofs.Common.{pos}
 use Rattle.std.specs.Prelude.{Option, Some, None, slice_get}
-use Rattle.cjc_card_semantics.specs.LowerCapRead.Opcodes.{Form, Fields, Table, Lookup, form}
-use Rattle.cjc_card_semantics.specs.LowerCapRead.Decode.{Instruction, size, size_by}
+use Rattle.cjc_card_semantics.specs.CapRead.Opcodes.{Form, Fields, Table, Lookup, form}
+use Rattle.cjc_card_semantics.specs.CapRead.Decode.{Instruction, size, size_by}
 use Rattle.cjc_card_semantics.specs.Bytecode.Meanings.{Meaning, Plain, Branches, Ranged, Paired, Touches, Uses}
 use Rattle.cjc_card_semantics.specs.Bytecode.Meanings.{CallsInterface, MakesNumbers, Casts, Asks, Nothing, meaning}
 use Rattle.cjc_ncode.specs.declared.narrow.NCase.{NCase}

@@ -1,6 +1,6 @@
 -- Components run as narrow code does by label.
 use Rattle.std.proofs.Common.{◌≡◌, ℕ, refl, sym, ◌∙◌, List, [], ◌∷◌}
-use Rattle.cjc_code.specs.LowerBytes.declared.fault.MemberId.{MemberId}
+use Rattle.cjc_code.specs.Bytes.declared.fault.MemberId.{MemberId}
 use Rattle.cjc_card_semantics.specs.Bytecode.Effects.{HeapObject, Numbers, References, Object}
 use Rattle.cjc_card_semantics.specs.Bytecode.Renaming.{Knows, numbers_known, references_known, object_known, KnownHeap}
 use Rattle.cjc_card_semantics.specs.Bytecode.Renaming.{no_things, one_thing}

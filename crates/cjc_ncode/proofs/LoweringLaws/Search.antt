@@ -4,9 +4,9 @@ use Rattle.std.proofs.Common.{List, [], ◌∷◌, ◌++◌}
 use Rattle.std.specs.Prelude.{Option, Some, None, nat_le, nat_lt, slice_get, if◌then◌else◌, not, ◌&&◌, ◌||◌}
 use Rattle.std.proofs.lemmas.Bool.{cases_lt}
 use Rattle.std.proofs.lemmas.Bool.Decides.{nat_tests}
-use Rattle.cjc_card_semantics.specs.LowerCapRead.declared.tree.Handler.{Handler}
-use Rattle.cjc_card_semantics.specs.LowerCapRead.declared.tree.PoolEntry.{PoolEntry}
-use Rattle.cjc_card_semantics.specs.LowerScript.Sorts.{Shape, OfClass}
+use Rattle.cjc_card_semantics.specs.CapRead.declared.tree.Handler.{Handler}
+use Rattle.cjc_card_semantics.specs.CapRead.declared.tree.PoolEntry.{PoolEntry}
+use Rattle.cjc_card_semantics.specs.Script.Sorts.{Shape, OfClass}
 use Rattle.cjc_card_semantics.specs.Bytecode.Renaming.{option_as, shape_as}
 use Rattle.cjc_card_semantics.specs.Machine.Loaded.{Loaded}
 use Rattle.cjc_card_semantics.specs.Machine.Classes.{Class}

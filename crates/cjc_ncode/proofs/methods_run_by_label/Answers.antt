@@ -1,6 +1,6 @@
 use Rattle.std.proofs.Common.{refl}
 use Rattle.std.specs.Int.{int_wrap}
-use Rattle.cjc_code.specs.LowerBytes.Spots.{after, bad_at, types_from, parts_of, desc_of}
+use Rattle.cjc_code.specs.Bytes.Spots.{after, bad_at, types_from, parts_of, desc_of}
 use Rattle.cjc_card_semantics.specs.Bytecode.Meanings.{meaning}
 use Rattle.cjc_ncode.specs.ByLabel.{by_label}
 use Rattle.cjc_ncode.proofs.methods_run_by_label.Goals as goal

@@ -4,16 +4,16 @@
 use Rattle.std.specs.Prelude.{ℕ, ◌+◌, ◌-◌, ◌*◌, List, [], ◌∷◌, ◌++◌, length, map, take, replicate, sum_by, max, Option}
 use Rattle.std.specs.Prelude.{Some, None, Bool, true, false, nat_le, nat_lt, ◌==◌, if◌then◌else◌, ℤ, pos, negsuc, ◌+ℤ◌}
 use Rattle.std.specs.List.{list_any}
-use Rattle.cjc_code.specs.LowerBytes.declared.fault.MemberId.{MemberId}
-use Rattle.cjc_code.specs.LowerClassFile.Code.{CodeTree}
+use Rattle.cjc_code.specs.Bytes.declared.fault.MemberId.{MemberId}
+use Rattle.cjc_code.specs.ClassFile.Code.{CodeTree}
 use Rattle.cjc_code.specs.declared.insn.JInsn.{JInsn}
 use Rattle.cjc_code.specs.declared.insn.JOp.{JOp}
 use Rattle.cjc_code.specs.declared.insn.JOp.TheVariants as jop
 use Rattle.cjc_code.specs.Jvm as jvm
-use Rattle.cjc_card_semantics.specs.LowerScript.Sorts.{Sort, Boolean, Byte, Short, Int, Reference, Signature}
-use Rattle.cjc_card_semantics.specs.LowerScript.Sorts.{field_sort}
-use Rattle.cjc_card_semantics.specs.LowerScript.Sorts.{signature_of}
-use Rattle.cjc_card_semantics.specs.LowerScript.Sorts.{shape_named}
+use Rattle.cjc_card_semantics.specs.Script.Sorts.{Sort, Boolean, Byte, Short, Int, Reference, Signature}
+use Rattle.cjc_card_semantics.specs.Script.Sorts.{field_sort}
+use Rattle.cjc_card_semantics.specs.Script.Sorts.{signature_of}
+use Rattle.cjc_card_semantics.specs.Script.Sorts.{shape_named}
 use Rattle.cjc_card_semantics.specs.Bytecode.Arguments.{widths}
 use Rattle.cjc_ncode.specs.declared.narrow.NCase.{NCase}
 use Rattle.cjc_ncode.specs.declared.narrow.NInsn.{NInsn}
@@ -22,7 +22,7 @@ use Rattle.cjc_ncode.specs.declared.narrow.NMethod.{NMethod}
 use Rattle.cjc_ncode.specs.declared.narrow.PoolKey.TheVariants as keys
 use Rattle.cjc_ncode.specs.Written.{Resolution, local, is_byte, arithmetic, condition, leaving, pair_case}
 use Rattle.cjc_ncode.specs.Written.{static_access, field_access, call_by, element_number, type_test, catches_at}
-use Rattle.cjc_card_semantics.specs.LowerCapRead.Card as card
+use Rattle.cjc_card_semantics.specs.CapRead.Card as card
 
 -- what the least tables say of the frame before an instruction
 pub record Before : Type 0 where

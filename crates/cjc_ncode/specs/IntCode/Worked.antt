@@ -1,9 +1,9 @@
 -- Methods made by hand, with what is written for them in int mode.
 use Rattle.std.specs.Prelude.{ℕ, ℤ, List, [], ◌∷◌, Some, None, Bool, true, false, pos, codes}
-use Rattle.cjc_code.specs.LowerClassFile.Code.{CodeTree}
+use Rattle.cjc_code.specs.ClassFile.Code.{CodeTree}
 use Rattle.cjc_code.specs.declared.insn.JOp.{JOp}
 use Rattle.cjc_code.specs.declared.insn.JOp.TheVariants as jop
-use Rattle.cjc_card_semantics.specs.LowerScript.Sorts.{Sort, Byte, Short, Int, Reference, OfNumbers, Bytes}
+use Rattle.cjc_card_semantics.specs.Script.Sorts.{Sort, Byte, Short, Int, Reference, OfNumbers, Bytes}
 use Rattle.cjc_ncode.specs.declared.narrow.NInsn.{NInsn}
 use Rattle.cjc_ncode.specs.declared.narrow.NInsn.TheVariants as insns
 use Rattle.cjc_ncode.specs.Written.{Resolution}

@@ -1,8 +1,8 @@
 -- What is left to the tables of classes, tokens, static cells and names, for narrow code and components to run alike:
 -- the code is not among it.
 use Rattle.std.specs.Prelude.{◌≡◌, ℕ, List, [], map, Option, Some, Bool, true, slice_get}
-use Rattle.cjc_code.specs.LowerBytes.declared.fault.MemberId.{MemberId}
-use Rattle.cjc_card_semantics.specs.LowerScript.Sorts.{Shape}
+use Rattle.cjc_code.specs.Bytes.declared.fault.MemberId.{MemberId}
+use Rattle.cjc_card_semantics.specs.Script.Sorts.{Shape}
 use Rattle.cjc_card_semantics.specs.Bytecode.Calculations.{Fault}
 use Rattle.cjc_card_semantics.specs.Bytecode.Effects.{Letter, Slot, HeapObject, Object, shape}
 use Rattle.cjc_card_semantics.specs.Bytecode.Renaming.{option_as, shape_as, Knows, KnownHeapObject, KnownOperation}

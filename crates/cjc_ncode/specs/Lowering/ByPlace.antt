@@ -1,8 +1,8 @@
 -- The run of narrow code of methods that know where they stand: two methods with the same code are two. What an
 -- instruction, a handler and a report are is as by label.
 use Rattle.std.specs.Prelude.{ℕ, List, map, Option}
-use Rattle.cjc_code.specs.LowerBytes.declared.fault.MemberId.{MemberId}
-use Rattle.cjc_card_semantics.specs.LowerScript.Sorts.{Shape}
+use Rattle.cjc_code.specs.Bytes.declared.fault.MemberId.{MemberId}
+use Rattle.cjc_card_semantics.specs.Script.Sorts.{Shape}
 use Rattle.cjc_card_semantics.specs.Bytecode.Effects.{Slot}
 use Rattle.cjc_card_semantics.specs.Bytecode.Machine.{Start, Reached, Setting}
 use Rattle.cjc_ncode.specs.ByLabel.{Callee, Named, classes, fetch, handler, on_object, shown_slot}

@@ -2,8 +2,8 @@
 -- Specification 2.2.2, section 6.9.2).
 use Rattle.std.specs.Prelude.{◌≡◌, ℕ, suc, ◌+◌, ◌-◌, ◌<◌, ◌≤◌, List, [], ◌∷◌, Option, Some, None, Bool, true, false}
 use Rattle.std.specs.Prelude.{not, nat_lt, ◌&&◌, ◌||◌, codes}
-use Rattle.cjc_card_semantics.specs.LowerCapRead.declared.tree.Handler.{Handler}
-use Rattle.cjc_card_semantics.specs.LowerScript.Sorts.{Shape, OfClass}
+use Rattle.cjc_card_semantics.specs.CapRead.declared.tree.Handler.{Handler}
+use Rattle.cjc_card_semantics.specs.Script.Sorts.{Shape, OfClass}
 use Rattle.cjc_card_semantics.specs.Bytecode.Renaming.{shape_as}
 use Rattle.cjc_card_semantics.specs.Machine.Classes.{is_of}
 use Rattle.cjc_ncode.specs.declared.narrow.NCatch.{NCatch}

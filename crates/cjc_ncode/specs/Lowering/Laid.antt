@@ -2,10 +2,10 @@
 -- Virtual Machine Specification 2.2.2, chapter 7).
 use Rattle.std.specs.Prelude.{◌≡◌, ℕ, suc, ◌+◌, ◌-◌, ◌*◌, List, [], ◌∷◌, length, Option, Some, None, Bool, nat_le}
 use Rattle.std.specs.Prelude.{if◌then◌else◌, ℤ, pos, negsuc, ◌+ℤ◌, ◌-ℤ◌}
-use Rattle.cjc_code.specs.LowerBytes.declared.fault.MemberId.{MemberId}
-use Rattle.cjc_card_semantics.specs.LowerCapRead.Decode.{Instruction}
-use Rattle.cjc_card_semantics.specs.LowerCapRead.Card as card
-use Rattle.cjc_card_semantics.specs.LowerScript.Sorts.{Element, Booleans, Bytes, Shorts, Ints}
+use Rattle.cjc_code.specs.Bytes.declared.fault.MemberId.{MemberId}
+use Rattle.cjc_card_semantics.specs.CapRead.Decode.{Instruction}
+use Rattle.cjc_card_semantics.specs.CapRead.Card as card
+use Rattle.cjc_card_semantics.specs.Script.Sorts.{Element, Booleans, Bytes, Shorts, Ints}
 use Rattle.cjc_card_semantics.specs.Bytecode.Calculations.{Calculation, Test}
 use Rattle.cjc_card_semantics.specs.Bytecode.Meanings.{Meaning, Plain, Branches, Ranged, Paired, Uses, Casts, Asks, Use}
 use Rattle.cjc_card_semantics.specs.Bytecode.Meanings.{meaning}

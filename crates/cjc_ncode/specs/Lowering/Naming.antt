@@ -1,11 +1,11 @@
 -- How a package's components name what its narrow code names: entries of the constant pool, references, tokens and
 -- offsets, and what each stands for on the card (Java Card Virtual Machine Specification 2.2.2, sections 4.3 and 6.7).
 use Rattle.std.specs.Prelude.{◌≡◌, ℕ, List, Some, Bool, true, false, slice_get}
-use Rattle.cjc_code.specs.LowerBytes.declared.fault.MemberId.{MemberId}
-use Rattle.cjc_card_semantics.specs.LowerCapRead.declared.tree.ClassRef.{ClassRef}
-use Rattle.cjc_card_semantics.specs.LowerCapRead.declared.tree.StaticRef.{StaticRef}
-use Rattle.cjc_card_semantics.specs.LowerCapRead.declared.tree.PoolEntry.{PoolEntry}
-use Rattle.cjc_card_semantics.specs.LowerCapRead.declared.tree.PoolEntry.TheVariants as entries
+use Rattle.cjc_code.specs.Bytes.declared.fault.MemberId.{MemberId}
+use Rattle.cjc_card_semantics.specs.CapRead.declared.tree.ClassRef.{ClassRef}
+use Rattle.cjc_card_semantics.specs.CapRead.declared.tree.StaticRef.{StaticRef}
+use Rattle.cjc_card_semantics.specs.CapRead.declared.tree.PoolEntry.{PoolEntry}
+use Rattle.cjc_card_semantics.specs.CapRead.declared.tree.PoolEntry.TheVariants as entries
 use Rattle.cjc_ncode.specs.declared.narrow.PoolKey.{PoolKey}
 use Rattle.cjc_ncode.specs.declared.narrow.PoolKey.TheVariants as keys
 use Rattle.cjc_ncode.specs.ByLabel

@@ -1,6 +1,6 @@
 -- The opcodes that each form of narrow instruction can have (Java Card Virtual Machine Specification 2.2.2, chapter 7).
 use Rattle.std.specs.Prelude.{ℕ, List, [], ◌∷◌}
-use Rattle.cjc_card_semantics.specs.LowerCapRead.Card as card
+use Rattle.cjc_card_semantics.specs.CapRead.Card as card
 
 -- something holds of each of these
 abbrev pub HoldsOfAll : (ℕ → Type 0) → List ℕ → Type 0

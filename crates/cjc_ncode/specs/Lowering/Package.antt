@@ -1,7 +1,7 @@
 -- The methods of a package, one behind the other in Method's info, with their handlers in its table (Java Card Virtual
 -- Machine Specification 2.2.2, section 6.9).
 use Rattle.std.specs.Prelude.{◌≡◌, ℕ, ◌+◌, ◌<◌, List, [], ◌∷◌, ◌++◌, length, Some, slice_get}
-use Rattle.cjc_card_semantics.specs.LowerCapRead.declared.tree.Handler.{Handler}
+use Rattle.cjc_card_semantics.specs.CapRead.declared.tree.Handler.{Handler}
 use Rattle.cjc_card_semantics.specs.Machine.Loaded.{Part}
 use Rattle.cjc_card_semantics.specs.Machine.Methods.{methods_begin}
 use Rattle.cjc_ncode.specs.Lowering.Naming.{Naming}

@@ -2,11 +2,11 @@
 -- section 6.9).
 use Rattle.std.specs.Prelude.{◌≡◌, ℕ, zero, suc, ◌+◌, ◌*◌, ◌≤◌, List, [], ◌∷◌, ◌++◌, length, Option, Some, None, Bool}
 use Rattle.std.specs.Prelude.{slice_get}
-use Rattle.cjc_card_semantics.specs.LowerCapRead.declared.tree.Handler.{Handler}
-use Rattle.cjc_card_semantics.specs.LowerCapRead.declared.tree.MethodDescriptor.{MethodDescriptor}
-use Rattle.cjc_card_semantics.specs.LowerCapRead.MethodHeader.{method_header}
-use Rattle.cjc_card_semantics.specs.LowerCapRead.Opcodes.{Form, form}
-use Rattle.cjc_card_semantics.specs.LowerCapRead.Decode.{Instruction, emitted, size, IsWritable}
+use Rattle.cjc_card_semantics.specs.CapRead.declared.tree.Handler.{Handler}
+use Rattle.cjc_card_semantics.specs.CapRead.declared.tree.MethodDescriptor.{MethodDescriptor}
+use Rattle.cjc_card_semantics.specs.CapRead.MethodHeader.{method_header}
+use Rattle.cjc_card_semantics.specs.CapRead.Opcodes.{Form, form}
+use Rattle.cjc_card_semantics.specs.CapRead.Decode.{Instruction, emitted, size, IsWritable}
 use Rattle.cjc_card_semantics.specs.Bytecode.Machine.{Start, Fetched}
 use Rattle.cjc_card_semantics.specs.Machine.Loaded.{Part}
 use Rattle.cjc_card_semantics.specs.Machine.Classes.{Class, Field}
@@ -16,7 +16,7 @@ use Rattle.cjc_card_semantics.specs.Machine.Methods.{Code, bytes_from, methods_b
 use Rattle.cjc_ncode.specs.declared.narrow.NInsn.{NInsn}
 use Rattle.cjc_ncode.specs.declared.narrow.NMethod.{NMethod}
 use Rattle.cjc_ncode.specs.ByLabel
-use Rattle.cjc_code.specs.LowerBytes.declared.fault.MemberId.{MemberId}
+use Rattle.cjc_code.specs.Bytes.declared.fault.MemberId.{MemberId}
 use Rattle.cjc_ncode.specs.Lowering.Naming.{Naming, on_card}
 use Rattle.cjc_ncode.specs.Lowering.Laid.{laid, IsFormed}
 use Rattle.cjc_ncode.specs.Lowering.Handlers.{handlers_of, AllElsewhere}

@@ -1,9 +1,9 @@
 -- The narrow code of a package whose components are made by hand, and how these name what it names: p/A, p/B and p/T.
 use Rattle.std.specs.Prelude.{ℕ, List, [], ◌∷◌, map, Some, None, false, if◌then◌else◌, codes}
 use Rattle.std.specs.Str.{bytes_eq}
-use Rattle.cjc_code.specs.LowerBytes.declared.fault.MemberId.{MemberId}
-use Rattle.cjc_card_semantics.specs.LowerCapRead.declared.tree.ClassRef.TheVariants.{Inside, Outside}
-use Rattle.cjc_card_semantics.specs.LowerCapRead.declared.tree.StaticRef.TheVariants as refs
+use Rattle.cjc_code.specs.Bytes.declared.fault.MemberId.{MemberId}
+use Rattle.cjc_card_semantics.specs.CapRead.declared.tree.ClassRef.TheVariants.{Inside, Outside}
+use Rattle.cjc_card_semantics.specs.CapRead.declared.tree.StaticRef.TheVariants as refs
 use Rattle.cjc_card_semantics.specs.Machine.Classes.{Own, External}
 use Rattle.cjc_card_semantics.specs.Machine.Dispatch.{Open}
 use Rattle.cjc_card_semantics.specs.Machine.Operations.{Fixed}

@@ -2,7 +2,7 @@
 use Rattle.std.proofs.Common.{◌≡◌, ℕ, zero, suc, ◌+◌, refl, sym, ap, subst, ◌∙◌, arith, Bool, true, false, List, []}
 use Rattle.std.proofs.Common.{◌∷◌, ◌++◌, length, take}
 use Rattle.std.specs.Prelude.{if◌then◌else◌, slice_get, map, Option, Some, None, option_map}
-use Rattle.cjc_world.specs.LowerClassFile.declared.tree.ClassTree.{ClassTree}
+use Rattle.cjc_world.specs.ClassFile.declared.tree.ClassTree.{ClassTree}
 use Rattle.cjc_world.specs.Files.{Files}
 use Rattle.cjc_world.specs.Classes.{Class, declared, all_classes}
 use Rattle.cjc_world.specs.Order.{may_stand, next, and_then, lined_up, in_order}

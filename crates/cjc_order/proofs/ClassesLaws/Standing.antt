@@ -9,10 +9,10 @@ use Rattle.std.proofs.lemmas.List.Elements.{filter-append, All-append}
 use Rattle.std.proofs.lemmas.List.Folds.{list_any-append}
 use Rattle.std.proofs.lemmas.List.Sums.{sum_by-cons}
 use Rattle.std.proofs.lemmas.List.{map-append}
-use Rattle.cjc_world.specs.LowerBytes.declared.settings.FileLine.{FileLine}
-use Rattle.cjc_world.specs.LowerClassFile.declared.tree.ClassTree.{ClassTree}
-use Rattle.cjc_world.specs.LowerExportFile.declared.tree.ExportClass.{ExportClass}
-use Rattle.cjc_world.specs.LowerExportFile.declared.tree.ExportTree.{ExportTree}
+use Rattle.cjc_world.specs.Bytes.declared.settings.FileLine.{FileLine}
+use Rattle.cjc_world.specs.ClassFile.declared.tree.ClassTree.{ClassTree}
+use Rattle.cjc_world.specs.ExportFile.declared.tree.ExportClass.{ExportClass}
+use Rattle.cjc_world.specs.ExportFile.declared.tree.ExportTree.{ExportTree}
 use Rattle.cjc_world.specs.Files.{Files}
 use Rattle.cjc_world.specs.Classes.{Class, declared, numbered, size, of_class_file, of_export_file, classes_from}
 use Rattle.cjc_world.specs.Classes.{all_classes, class_named}

@@ -9,7 +9,7 @@ use Rattle.std.proofs.lemmas.Option.{slice_get_within, get_or_from_slice_get}
 use Rattle.std.proofs.lemmas.List.Folds.{list_any-append}
 use Rattle.std.proofs.lemmas.Slice.Eq.{bytes_eq-Decides}
 use Rattle.indexmap.specs.IndexSet.{insert_key}
-use Rattle.cjc_world.specs.LowerExportFile.Supers.{is_one_of}
+use Rattle.cjc_world.specs.ExportFile.Supers.{is_one_of}
 use Rattle.cjc_world.specs.Interfaces.{Interface, is_among}
 use Rattle.cjc_world.specs.Interfaces
 use Rattle.cjc_world.specs.Classes.{Class}

@@ -3,7 +3,7 @@ use Rattle.std.specs.Prelude.{◌≡◌, ◌<◌, ℕ, ◌+◌, ◌==◌, count_
 use Rattle.std.specs.Prelude.{slice_get, Bool, true, false, not, ◌&&◌, Option, None, Some}
 use Rattle.std.specs.Ordering.{nat_cmp}
 use Rattle.std.specs.BTreeSet.{contains}
-use Rattle.cjc_world.specs.LowerClassFile.declared.tree.ClassTree.{ClassTree}
+use Rattle.cjc_world.specs.ClassFile.declared.tree.ClassTree.{ClassTree}
 use Rattle.cjc_world.specs.Classes.{Class, declared}
 use Rattle.cjc_world.specs.Order.{is_in, is_of_kind, lined_up}
 use Rattle.cjc_order.specs.declared.classes.ready.Ready.{Ready}

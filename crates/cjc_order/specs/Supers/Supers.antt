@@ -1,6 +1,6 @@
 -- The names of the superclasses and of the interfaces of a class, those that no file has too.
 use Rattle.std.specs.Prelude.{ℕ, List, [], ◌∷◌, ◌++◌, map, true, false, if◌then◌else◌}
-use Rattle.cjc_world.specs.LowerExportFile.Supers.{is_one_of}
+use Rattle.cjc_world.specs.ExportFile.Supers.{is_one_of}
 use Rattle.cjc_world.specs.Classes.{Class}
 use Rattle.cjc_world.specs.Supertypes.{Supertypes, End, Unknown, Known, supertypes}
 use Rattle.cjc_world.specs.Interfaces.{Interface, gathered}

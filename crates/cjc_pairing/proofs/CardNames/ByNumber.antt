@@ -7,29 +7,29 @@ use Rattle.std.specs.Str.{bytes_eq}
 use Rattle.std.proofs.lemmas.List.{map-append, length-map}
 use Rattle.std.proofs.lemmas.List.Concat.{flat_map_single}
 use Rattle.std.proofs.lemmas.Option.{slice_get-map}
-use Rattle.cjc_classes.specs.Bytes.AccessFlags.{is_interface}
-use Rattle.cjc_card_link.specs.CardSemantics.Machine.Loaded.{MethodName, ClassNames}
+use Rattle.cjc_card_link.specs.Bytes.AccessFlags.{is_interface}
+use Rattle.cjc_classes.specs.CardSemantics.Machine.Loaded.{MethodName, ClassNames}
 use Rattle.cjc_card_link.specs.declared.names.ClassNames.{ClassNames as ClassNamesData}
 use Rattle.cjc_card_link.specs.Names.{class_names_of}
-use Rattle.cjc_classes.specs.LowerClassOrder.Classes.Numbers.{declared_at}
-use Rattle.cjc_card_link.specs.ClassFile.declared.tree.ClassTree.{ClassTree}
-use Rattle.cjc_card_link.specs.ClassFile.declared.tree.FieldTree.{FieldTree}
-use Rattle.cjc_card_link.specs.ClassFile.declared.tree.MethodTree.{MethodTree}
-use Rattle.cjc_classes.specs.Components.Class.{fields_in}
-use Rattle.cjc_classes.specs.Components.Descriptor.{as_added, method_in, methods_with_added, no_member}
-use Rattle.cjc_classes.specs.Components.Paired.Naming.{class_names, fields_from, interface_names, method_name}
-use Rattle.cjc_classes.specs.Components.Paired.Naming.{method_names}
-use Rattle.cjc_classes.specs.Components.Paired.Naming.{signature_name}
-use Rattle.cjc_classes.specs.Tokens.Fields.{is_instance}
-use Rattle.cjc_classes.specs.Tokens.Members.{Signature}
-use Rattle.cjc_classes.specs.Tokens.Methods.{interface_methods}
-use Rattle.cjc_classes.specs.Tokens.Tokens.{Assigned}
+use Rattle.cjc_classes.specs.ClassOrder.Classes.Numbers.{declared_at}
+use Rattle.cjc_classes.specs.ClassFile.declared.tree.ClassTree.{ClassTree}
+use Rattle.cjc_classes.specs.ClassFile.declared.tree.FieldTree.{FieldTree}
+use Rattle.cjc_classes.specs.ClassFile.declared.tree.MethodTree.{MethodTree}
+use Rattle.cjc_classes.specs.LowerComponents.Class.{fields_in}
+use Rattle.cjc_classes.specs.LowerComponents.Descriptor.{as_added, method_in, methods_with_added, no_member}
+use Rattle.cjc_classes.specs.LowerComponents.Paired.Naming.{class_names, fields_from, interface_names, method_name}
+use Rattle.cjc_classes.specs.LowerComponents.Paired.Naming.{method_names}
+use Rattle.cjc_classes.specs.LowerComponents.Paired.Naming.{signature_name}
+use Rattle.cjc_classes.specs.LowerTokens.Fields.{is_instance}
+use Rattle.cjc_classes.specs.LowerTokens.Members.{Signature}
+use Rattle.cjc_classes.specs.LowerTokens.Methods.{interface_methods}
+use Rattle.cjc_classes.specs.LowerTokens.Tokens.{Assigned}
 use Rattle.cjc_classes.proofs.TypeInfo.Order.{along_order}
-use Rattle.cjc_classes.specs.World.Added.{added}
-use Rattle.cjc_classes.specs.World.Classes.{Class, Member, all_classes, declared, field_of_class, method_of_class}
-use Rattle.cjc_classes.specs.World.declared.found.Found.{Found}
-use Rattle.cjc_classes.specs.World.Files.{Files}
-use Rattle.cjc_classes.specs.World.Order.{class_order, in_order, written}
+use Rattle.cjc_card_link.specs.World.Added.{added}
+use Rattle.cjc_card_link.specs.World.Classes.{Class, Member, all_classes, declared, field_of_class, method_of_class}
+use Rattle.cjc_card_link.specs.World.declared.found.Found.{Found}
+use Rattle.cjc_card_link.specs.World.Files.{Files}
+use Rattle.cjc_card_link.specs.World.Order.{class_order, in_order, written}
 use Rattle.cjc_pairing.specs.CardNames.Working.Classes.{each_from, field_where, name_in, name_where, names_at, names_of}
 use Rattle.cjc_pairing.specs.CardNames.Working.Classes.{names_where}
 use Rattle.cjc_classes.proofs.BytesGets.{in_front}

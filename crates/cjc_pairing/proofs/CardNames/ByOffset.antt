@@ -2,14 +2,14 @@
 use Rattle.std.proofs.Common.{◌≡◌, ℕ, Bool, true, false, List, [], ◌∷◌, ◌++◌, map, refl, ap, ◌∙◌}
 use Rattle.std.specs.Prelude.{filter, if◌then◌else◌}
 use Rattle.std.specs.List.{flat_map}
-use Rattle.cjc_card_link.specs.CardSemantics.Machine.Loaded.{CellName}
-use Rattle.cjc_card_link.specs.ClassFile.declared.tree.ClassTree.{ClassTree}
-use Rattle.cjc_card_link.specs.ClassFile.declared.tree.FieldTree.{FieldTree}
-use Rattle.cjc_classes.specs.LowerClinit.Fields.{is_cell}
-use Rattle.cjc_classes.specs.LowerClinit.Image.{field_id}
-use Rattle.cjc_classes.specs.Components.Statics.{cell_offset}
-use Rattle.cjc_classes.specs.Components.Paired.Naming.{cells_in}
-use Rattle.cjc_classes.specs.World.declared.image.StaticImage.{StaticImage}
+use Rattle.cjc_classes.specs.CardSemantics.Machine.Loaded.{CellName}
+use Rattle.cjc_classes.specs.ClassFile.declared.tree.ClassTree.{ClassTree}
+use Rattle.cjc_classes.specs.ClassFile.declared.tree.FieldTree.{FieldTree}
+use Rattle.cjc_classes.specs.Clinit.Fields.{is_cell}
+use Rattle.cjc_classes.specs.Clinit.Image.{field_id}
+use Rattle.cjc_classes.specs.LowerComponents.Statics.{cell_offset}
+use Rattle.cjc_classes.specs.LowerComponents.Paired.Naming.{cells_in}
+use Rattle.cjc_card_link.specs.World.declared.image.StaticImage.{StaticImage}
 use Rattle.cjc_pairing.specs.CardNames.Working.Cells.{beside, cell_where, cells_by}
 
 -- the cell of a field of a class of this name

@@ -1,10 +1,10 @@
 -- Which methods a class is to have in Descriptor, by its number: its own but the initialiser, and those it got.
 use Rattle.std.specs.Prelude.{ℕ, ◌+◌, List, [], ◌∷◌, length, count_by, slice_get, Option, Some, None, Bool, not, codes}
 use Rattle.std.specs.Str.{bytes_eq}
-use Rattle.cjc_card_link.specs.ClassFile.declared.tree.ClassTree.{ClassTree}
-use Rattle.cjc_card_link.specs.ClassFile.declared.tree.MethodTree.{MethodTree}
-use Rattle.cjc_classes.specs.World.Added.{added_at}
-use Rattle.cjc_classes.specs.World.Files.{Files}
+use Rattle.cjc_classes.specs.ClassFile.declared.tree.ClassTree.{ClassTree}
+use Rattle.cjc_classes.specs.ClassFile.declared.tree.MethodTree.{MethodTree}
+use Rattle.cjc_card_link.specs.World.Added.{added_at}
+use Rattle.cjc_card_link.specs.World.Files.{Files}
 
 -- a method that is no class initialiser
 abbrev pub is_written : MethodTree → Bool

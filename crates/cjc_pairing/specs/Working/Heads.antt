@@ -1,19 +1,19 @@
 -- The first of several places, which stand in their order.
 use Rattle.std.specs.Prelude.{◌≡◌, ℕ, ◌+◌, ◌==◌, List, ◌++◌, length, map, option_map, option_to_list, Option}
-use Rattle.cjc_classes.specs.Bytes.Breaks.{RulePlace as Place}
-use Rattle.cjc_classes.specs.Bytes.declared.breaks.Break.{Break}
-use Rattle.cjc_classes.specs.Bytes.declared.order.FileKey.TheVariants as keys
-use Rattle.cjc_classes.specs.Bytes.Refused.{in_file}
-use Rattle.cjc_classes.specs.Bytes.Told.{break_of}
-use Rattle.cjc_card_link.specs.CapRead.declared.tree.ClassDescriptor.{ClassDescriptor}
-use Rattle.cjc_classes.specs.Components.Paired.Pairs.{cell_spots, count_spots, head_of, method_spots}
-use Rattle.cjc_card_link.specs.CheckRules.Complete.{Complete}
-use Rattle.cjc_card_link.specs.CheckRules.Consistent.{break_at}
-use Rattle.cjc_card_link.specs.CheckRules.declared.spot.ComponentPlace.{ComponentPlace}
-use Rattle.cjc_card_link.specs.CheckRules.Spots.{in_info, unless}
-use Rattle.cjc_classes.specs.World.declared.image.StaticImage.{StaticImage}
-use Rattle.cjc_classes.specs.World.Classes.{all_classes}
-use Rattle.cjc_classes.specs.World.Files.{Files}
+use Rattle.cjc_card_link.specs.Bytes.Breaks.{RulePlace as Place}
+use Rattle.cjc_card_link.specs.Bytes.declared.breaks.Break.{Break}
+use Rattle.cjc_card_link.specs.Bytes.declared.order.FileKey.TheVariants as keys
+use Rattle.cjc_card_link.specs.Bytes.Refused.{in_file}
+use Rattle.cjc_card_link.specs.Bytes.Told.{break_of}
+use Rattle.cjc_card_link.specs.LowerCapRead.declared.tree.ClassDescriptor.{ClassDescriptor}
+use Rattle.cjc_classes.specs.LowerComponents.Paired.Pairs.{cell_spots, count_spots, head_of, method_spots}
+use Rattle.cjc_classes.specs.CheckRules.Complete.{Complete}
+use Rattle.cjc_classes.specs.CheckRules.Consistent.{break_at}
+use Rattle.cjc_classes.specs.CheckRules.declared.spot.ComponentPlace.{ComponentPlace}
+use Rattle.cjc_classes.specs.CheckRules.Spots.{in_info, unless}
+use Rattle.cjc_card_link.specs.World.declared.image.StaticImage.{StaticImage}
+use Rattle.cjc_card_link.specs.World.Classes.{all_classes}
+use Rattle.cjc_card_link.specs.World.Files.{Files}
 
 -- the break at the head of some places, none where there is no place
 abbrev pub IsHead : List ComponentPlace → Option Break → Type 0

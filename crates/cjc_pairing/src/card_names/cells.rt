@@ -3,10 +3,10 @@
 
 ghost use Rattle.std.specs.Prelude.{◌≡◌, ◌++◌, map, IfOk, OnOk};
 ghost use Rattle.std.specs.List.{flat_map};
-ghost use Rattle.cjc_classes.specs.LowerClinit.Fields.{is_cell};
-ghost use Rattle.cjc_classes.specs.LowerClinit.Image.{field_id};
-ghost use Rattle.cjc_card_link.specs.CardFrame.Kinds.{cell_name_of};
-ghost use Rattle.cjc_classes.specs.Components.Paired.Naming.{cells_in};
+ghost use Rattle.cjc_classes.specs.Clinit.Fields.{is_cell};
+ghost use Rattle.cjc_classes.specs.Clinit.Image.{field_id};
+ghost use Rattle.cjc_card_link.specs.LowerCardFrame.Kinds.{cell_name_of};
+ghost use Rattle.cjc_classes.specs.LowerComponents.Paired.Naming.{cells_in};
 ghost use Rattle.cjc_pairing.specs.CardNames.Working.Cells.{beside, cell_where, cells_by};
 
 use cjc_card_link::card_frame::parts::CellName;

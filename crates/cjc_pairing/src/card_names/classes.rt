@@ -3,10 +3,10 @@
 
 ghost use Rattle.std.specs.Prelude.{◌≡◌, ◌++◌, map, IfOk, OnOk};
 ghost use Rattle.std.specs.List.{flat_map};
-ghost use Rattle.cjc_classes.specs.World.Classes.{all_classes};
-ghost use Rattle.cjc_classes.specs.World.Order.{class_order};
+ghost use Rattle.cjc_card_link.specs.World.Classes.{all_classes};
+ghost use Rattle.cjc_card_link.specs.World.Order.{class_order};
 ghost use Rattle.cjc_card_link.specs.Names.{class_names_of};
-ghost use Rattle.cjc_classes.specs.Components.Paired.Naming.{class_names};
+ghost use Rattle.cjc_classes.specs.LowerComponents.Paired.Naming.{class_names};
 ghost use Rattle.cjc_pairing.specs.CardNames.Working.Classes.{names_at, names_of};
 
 use crate::card_names::fields::field_names;

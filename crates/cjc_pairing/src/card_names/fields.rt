@@ -2,7 +2,7 @@
 //! section 4.3.7.5). Called by `classes`.
 
 ghost use Rattle.std.specs.Prelude.{◌≡◌, ◌++◌, map, IfOk, OnOk};
-ghost use Rattle.cjc_classes.specs.Tokens.Fields.{is_instance};
+ghost use Rattle.cjc_classes.specs.LowerTokens.Fields.{is_instance};
 ghost use Rattle.cjc_card_link.specs.Names.{field_name_of};
 ghost use Rattle.cjc_pairing.specs.CardNames.Working.Classes.{each_from, field_at, field_where};
 

@@ -3,10 +3,10 @@
 
 ghost use Rattle.std.specs.Prelude.{◌≡◌, ◌++◌, map, option_map, IfOk, OnOk};
 ghost use Rattle.std.specs.List.{flat_map};
-ghost use Rattle.cjc_classes.specs.World.Classes.{all_classes, declared};
-ghost use Rattle.cjc_classes.specs.Tokens.Working.{signature_in, signs};
+ghost use Rattle.cjc_card_link.specs.World.Classes.{all_classes, declared};
+ghost use Rattle.cjc_classes.specs.LowerTokens.Working.{signature_in, signs};
 ghost use Rattle.cjc_card_link.specs.Names.{method_name_of};
-ghost use Rattle.cjc_classes.specs.Components.Paired.Naming.{interface_names};
+ghost use Rattle.cjc_classes.specs.LowerComponents.Paired.Naming.{interface_names};
 ghost use Rattle.cjc_pairing.specs.CardNames.Working.Classes.{name_in, name_where};
 
 use cjc_card_link::MethodName;

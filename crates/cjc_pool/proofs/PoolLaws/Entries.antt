@@ -3,14 +3,14 @@ use Rattle.std.proofs.Common.{◌≡◌, ℕ, refl, sym, ap, ◌∙◌, true, Li
 use Rattle.std.specs.Prelude.{Some, option_map, position, slice_get, unwrap_or}
 use Rattle.std.specs.List.{flat_map, list_any}
 use Rattle.std.proofs.lemmas.Option.{slice_get-map}
-use Rattle.cjc_narrow.specs.CapRead.declared.tree.PoolEntry.{PoolEntry}
-use Rattle.cjc_narrow.specs.CardSemantics.Machine.Loaded.{Loaded}
+use Rattle.cjc_narrow.specs.LowerCapRead.declared.tree.PoolEntry.{PoolEntry}
+use Rattle.cjc_narrow.specs.LowerCardSemantics.Machine.Loaded.{Loaded}
 use Rattle.cjc_narrow.specs.Keys.Index.{index_of}
 use Rattle.cjc_narrow.proofs.KeysLaws.Indices.{key_at, needed}
-use Rattle.cjc_narrow.specs.NCode.declared.narrow.PoolKey.{PoolKey}
-use Rattle.cjc_narrow.specs.NCode.declared.narrow.PoolKey.TheVariants as keys
-use Rattle.cjc_narrow.specs.NCode.PoolOrder.{method_keys, same_key}
-use Rattle.cjc_narrow.specs.NCode.Lowering.Naming.{Holds, entry_of}
+use Rattle.cjc_narrow.specs.LowerNCode.declared.narrow.PoolKey.{PoolKey}
+use Rattle.cjc_narrow.specs.LowerNCode.declared.narrow.PoolKey.TheVariants as keys
+use Rattle.cjc_narrow.specs.LowerNCode.PoolOrder.{method_keys, same_key}
+use Rattle.cjc_narrow.specs.LowerNCode.Lowering.Naming.{Holds, entry_of}
 use Rattle.cjc_pool.specs.Pool.{IsPool, PoolView}
 use Rattle.cjc_components.specs.Names.{names, naming_over, pool_entries}
 use Rattle.cjc_components.specs.Package.{Package, codes, pool, tokens}

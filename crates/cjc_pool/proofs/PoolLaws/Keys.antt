@@ -3,20 +3,20 @@ use Rattle.std.proofs.Common.{◌≡◌, ℕ, refl, ap, ◌∙◌, true, false, 
 use Rattle.std.specs.Prelude.{Option, Some, None, IsSome, position, if◌then◌else◌}
 use Rattle.std.specs.List.{flat_map, list_any}
 use Rattle.std.proofs.lemmas.Map.Keys.{any_passes_from_place}
-use Rattle.cjc_narrow.specs.Bytes.declared.fault.MemberId.{MemberId}
+use Rattle.cjc_components.specs.Bytes.declared.fault.MemberId.{MemberId}
 use Rattle.cjc_narrow.specs.Keys.Index.{index_of}
 use Rattle.cjc_narrow.specs.Keys.Working.Same.{same_key-Decides}
 use Rattle.cjc_narrow.proofs.KeysLaws.Indices.{needed}
-use Rattle.cjc_narrow.specs.NCode.declared.narrow.NInsn.{NInsn}
-use Rattle.cjc_narrow.specs.NCode.declared.narrow.NInsn.TheVariants as insns
-use Rattle.cjc_narrow.specs.NCode.declared.narrow.NMethod.{NMethod}
-use Rattle.cjc_narrow.specs.NCode.declared.narrow.PoolKey.{PoolKey}
-use Rattle.cjc_narrow.specs.NCode.declared.narrow.PoolKey.TheVariants as keys
-use Rattle.cjc_narrow.specs.NCode.PoolOrder.{class_key, insn_keys, method_keys, pool_order, same_key}
-use Rattle.cjc_components.specs.Emit.Emitted.{HasIndex, HasNames, HasToken}
+use Rattle.cjc_narrow.specs.LowerNCode.declared.narrow.NInsn.{NInsn}
+use Rattle.cjc_narrow.specs.LowerNCode.declared.narrow.NInsn.TheVariants as insns
+use Rattle.cjc_narrow.specs.LowerNCode.declared.narrow.NMethod.{NMethod}
+use Rattle.cjc_narrow.specs.LowerNCode.declared.narrow.PoolKey.{PoolKey}
+use Rattle.cjc_narrow.specs.LowerNCode.declared.narrow.PoolKey.TheVariants as keys
+use Rattle.cjc_narrow.specs.LowerNCode.PoolOrder.{class_key, insn_keys, method_keys, pool_order, same_key}
+use Rattle.cjc_components.specs.LowerEmit.Emitted.{HasIndex, HasNames, HasToken}
 use Rattle.cjc_pool.specs.Pool.{IsPool, PoolView, calls, is_called, token_in, token_of}
-use Rattle.cjc_components.specs.Tokens.Tokens.{Assigned}
-use Rattle.cjc_narrow.specs.World.Files.{Files}
+use Rattle.cjc_components.specs.LowerTokens.Tokens.{Assigned}
+use Rattle.cjc_components.specs.World.Files.{Files}
 use Rattle.cjc_pool.specs.Named.{CallsHaveTokens, IsAmong}
 use Rattle.cjc_narrow.proofs.BytesQuantified.{any_front}
 use Rattle.cjc_narrow.proofs.BytesGets.{any_flat}

@@ -1,13 +1,13 @@
 -- Called methods of interfaces as the code keeps them: each as the key of a virtual method, with its token.
 use Rattle.std.specs.Prelude.{ℕ, List, [], ◌∷◌, flat_map, Option, None}
-use Rattle.cjc_narrow.specs.Bytes.declared.fault.MemberId.{MemberId}
-use Rattle.cjc_narrow.specs.World.Files.{Files}
-use Rattle.cjc_components.specs.Tokens.Tokens.{Assigned}
-use Rattle.cjc_narrow.specs.NCode.declared.narrow.NInsn.{NInsn}
-use Rattle.cjc_narrow.specs.NCode.declared.narrow.NInsn.TheVariants as insns
-use Rattle.cjc_narrow.specs.NCode.declared.narrow.NMethod.{NMethod}
-use Rattle.cjc_narrow.specs.NCode.declared.narrow.PoolKey.{PoolKey}
-use Rattle.cjc_narrow.specs.NCode.declared.narrow.PoolKey.TheVariants as keys
+use Rattle.cjc_components.specs.Bytes.declared.fault.MemberId.{MemberId}
+use Rattle.cjc_components.specs.World.Files.{Files}
+use Rattle.cjc_components.specs.LowerTokens.Tokens.{Assigned}
+use Rattle.cjc_narrow.specs.LowerNCode.declared.narrow.NInsn.{NInsn}
+use Rattle.cjc_narrow.specs.LowerNCode.declared.narrow.NInsn.TheVariants as insns
+use Rattle.cjc_narrow.specs.LowerNCode.declared.narrow.NMethod.{NMethod}
+use Rattle.cjc_narrow.specs.LowerNCode.declared.narrow.PoolKey.{PoolKey}
+use Rattle.cjc_narrow.specs.LowerNCode.declared.narrow.PoolKey.TheVariants as keys
 use Rattle.cjc_pool.specs.Pool.{token_of}
 
 -- the method of an interface that an instruction calls

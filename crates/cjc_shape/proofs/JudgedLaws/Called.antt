@@ -2,38 +2,38 @@
 use Rattle.std.proofs.Common.{◌≡◌, ℕ, refl, sym, ap, subst, ◌∙◌, arith, Bool, true, false, not, ◌&&◌, ◌||◌}
 use Rattle.std.proofs.Common.{List, [], length}
 use Rattle.std.specs.Prelude.{◌-◌, ◌+◌, ◌<◌, Option, Some, None, option_and_then, option_map, slice_get}
-use Rattle.cjc_methods.specs.Bytes.AccessFlags.{is_interface}
-use Rattle.cjc_methods.specs.Bytes.Breaks.{each_from}
-use Rattle.cjc_methods.specs.Bytes.Order.{file_of}
-use Rattle.cjc_methods.specs.Bytes.declared.fault.MemberId.{MemberId}
-use Rattle.cjc_methods.specs.ClassFile.Code.{CodeTree}
-use Rattle.cjc_methods.specs.ClassFile.declared.tree.ClassTree.{ClassTree}
-use Rattle.cjc_methods.specs.ClassFile.declared.tree.MethodTree.{MethodTree}
-use Rattle.cjc_narrow_proof.specs.Bytecode.declared.insn.JInsn.{JInsn}
-use Rattle.cjc_narrow_proof.specs.Bytecode.declared.insn.JOp.TheVariants as jop
-use Rattle.cjc_narrow_proof.specs.Bytecode.declared.method_code.MethodCode.{MethodCode}
-use Rattle.cjc_methods.specs.ExportFile.Writable.{IsWritable}
-use Rattle.cjc_methods.specs.ExportFile.declared.tree.ExportTree.{ExportTree}
-use Rattle.cjc_narrow_proof.specs.JvmSemantics.OnePackage.{method_hit}
-use Rattle.cjc_narrow_proof.specs.Narrow.Rows.Resolved.{by_owner, resolved_method}
-use Rattle.cjc_methods.specs.Pool.Pool.{token_of}
-use Rattle.cjc_narrow_proof.specs.Subset.Members.{ResolvedMember, hit, hit_of, is_array, is_initialiser}
+use Rattle.cjc_exported.specs.Bytes.AccessFlags.{is_interface}
+use Rattle.cjc_exported.specs.Bytes.Breaks.{each_from}
+use Rattle.cjc_exported.specs.Bytes.Order.{file_of}
+use Rattle.cjc_exported.specs.Bytes.declared.fault.MemberId.{MemberId}
+use Rattle.cjc_exported.specs.ClassFile.Code.{CodeTree}
+use Rattle.cjc_exported.specs.ClassFile.declared.tree.ClassTree.{ClassTree}
+use Rattle.cjc_exported.specs.ClassFile.declared.tree.MethodTree.{MethodTree}
+use Rattle.cjc_methods.specs.Bytecode.declared.insn.JInsn.{JInsn}
+use Rattle.cjc_methods.specs.Bytecode.declared.insn.JOp.TheVariants as jop
+use Rattle.cjc_methods.specs.Bytecode.declared.method_code.MethodCode.{MethodCode}
+use Rattle.cjc_narrow_proof.specs.ExportFile.Writable.{IsWritable}
+use Rattle.cjc_narrow_proof.specs.ExportFile.declared.tree.ExportTree.{ExportTree}
+use Rattle.cjc_methods.specs.JvmSemantics.OnePackage.{method_hit}
+use Rattle.cjc_methods.specs.Narrow.Rows.Resolved.{by_owner, resolved_method}
+use Rattle.cjc_methods.specs.LowerPool.Pool.{token_of}
+use Rattle.cjc_methods.specs.Subset.Members.{ResolvedMember, hit, hit_of, is_array, is_initialiser}
 use Rattle.cjc_narrow_proof.proofs.SubsetCallees.{method_unfound}
-use Rattle.cjc_narrow_proof.specs.Subset.Names.{code_breaks, insn_breaks, is_hidden, is_name_missing}
-use Rattle.cjc_narrow_proof.specs.Subset.Names.{is_not_found, is_unfit_call, is_unfit_class}
-use Rattle.cjc_narrow_proof.specs.Subset.Names.{is_unfit_method}
-use Rattle.cjc_narrow_proof.specs.Subset.Names.{method_breaks, name_breaks, names_missing, names_unfit, names_unfound}
-use Rattle.cjc_narrow_proof.specs.Subset.Places.{of_class, of_method}
-use Rattle.cjc_exported.specs.Tokens.Rules.{token_breaks}
-use Rattle.cjc_exported.specs.Tokens.Tokens.{assigned, token_of_member}
-use Rattle.cjc_narrow_proof.specs.Types.Tables.{IsMethodOf}
+use Rattle.cjc_methods.specs.Subset.Names.{code_breaks, insn_breaks, is_hidden, is_name_missing}
+use Rattle.cjc_methods.specs.Subset.Names.{is_not_found, is_unfit_call, is_unfit_class}
+use Rattle.cjc_methods.specs.Subset.Names.{is_unfit_method}
+use Rattle.cjc_methods.specs.Subset.Names.{method_breaks, name_breaks, names_missing, names_unfit, names_unfound}
+use Rattle.cjc_methods.specs.Subset.Places.{of_class, of_method}
+use Rattle.cjc_methods.specs.Tokens.Rules.{token_breaks}
+use Rattle.cjc_methods.specs.Tokens.Tokens.{assigned, token_of_member}
+use Rattle.cjc_methods.specs.Types.Tables.{IsMethodOf}
 use Rattle.cjc_narrow_proof.proofs.VTableFiled.{at-number}
-use Rattle.cjc_methods.specs.World.Classes.{Class, all_classes, class_named}
-use Rattle.cjc_methods.specs.World.Files.{Files}
-use Rattle.cjc_methods.specs.World.Supertypes.{IsAcyclic}
-use Rattle.cjc_methods.specs.World.Lookup.{find_method}
-use Rattle.cjc_methods.specs.World.Rules.{is_desc_missing}
-use Rattle.cjc_methods.specs.World.declared.found.Found.{Found}
+use Rattle.cjc_exported.specs.World.Classes.{Class, all_classes, class_named}
+use Rattle.cjc_exported.specs.World.Files.{Files}
+use Rattle.cjc_exported.specs.World.Supertypes.{IsAcyclic}
+use Rattle.cjc_exported.specs.World.Lookup.{find_method}
+use Rattle.cjc_exported.specs.World.Rules.{is_desc_missing}
+use Rattle.cjc_exported.specs.World.declared.found.Found.{Found}
 use Rattle.cjc_shape.proofs.JudgedLaws.Owners.{IsOwn, found_again, found_own, own_at, owner_hit}
 use Rattle.cjc_shape.proofs.JudgedLaws.Tokens.{interface_tokens}
 use Rattle.cjc_methods.proofs.BytesBools.{not_false, or_left, or_right}

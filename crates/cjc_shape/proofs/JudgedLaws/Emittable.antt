@@ -3,36 +3,36 @@ use Rattle.std.proofs.Common.{◌≡◌, ℕ, zero, suc, ◌<◌, ◌≤◌, ref
 use Rattle.std.proofs.Common.{List, [], ◌∷◌, length}
 use Rattle.std.specs.Prelude.{Option, Some, None, IsSome, slice_get, unwrap_or, if◌then◌else◌}
 use Rattle.std.specs.List.{list_any}
-use Rattle.cjc_methods.specs.Bytes.declared.fault.MemberId.{MemberId}
-use Rattle.cjc_exported.specs.CapRead.Opcodes.{form}
-use Rattle.cjc_narrow_proof.specs.Bytecode.declared.insn.JInsn.{JInsn}
-use Rattle.cjc_narrow_proof.specs.Bytecode.declared.method_code.MethodCode.{MethodCode}
-use Rattle.cjc_narrow_proof.specs.Emit.Emitted.{CanBeWritten, HasIndex, HasNames, HasToken, IsEmittable, IsNamedBy}
-use Rattle.cjc_narrow_proof.specs.Emit.Emitted.{placed_at}
-use Rattle.cjc_narrow_proof.specs.Emit.Said.{CanBeSaid}
+use Rattle.cjc_exported.specs.Bytes.declared.fault.MemberId.{MemberId}
+use Rattle.cjc_methods.specs.CapRead.Opcodes.{form}
+use Rattle.cjc_methods.specs.Bytecode.declared.insn.JInsn.{JInsn}
+use Rattle.cjc_methods.specs.Bytecode.declared.method_code.MethodCode.{MethodCode}
+use Rattle.cjc_methods.specs.Emit.Emitted.{CanBeWritten, HasIndex, HasNames, HasToken, IsEmittable, IsNamedBy}
+use Rattle.cjc_methods.specs.Emit.Emitted.{placed_at}
+use Rattle.cjc_methods.specs.Emit.Said.{CanBeSaid}
 use Rattle.cjc_judge.specs.declared.judged.Judged.{Judged}
-use Rattle.cjc_narrow_proof.specs.Narrow.Keys.Index.{index_of}
-use Rattle.cjc_narrow_proof.specs.Narrow.Keys.Working.Same.{same_member-Decides}
+use Rattle.cjc_methods.specs.Narrow.Keys.Index.{index_of}
+use Rattle.cjc_methods.specs.Narrow.Keys.Working.Same.{same_member-Decides}
 use Rattle.cjc_methods.proofs.LayoutPlaces.{all_wide}
-use Rattle.cjc_exported.specs.Layout.Forms.{HasForm}
-use Rattle.cjc_exported.specs.Layout.Layouts.{IsLayout, IsWhole}
-use Rattle.cjc_exported.specs.Layout.Sizes.{code_size}
-use Rattle.cjc_exported.specs.Layout.declared.layout.Layout.{Layout}
-use Rattle.cjc_judge.specs.List.Listed.{ListTree}
-use Rattle.cjc_methods.specs.NCode.Lowering.Naming.{Naming}
-use Rattle.cjc_narrow_proof.specs.Narrow.Rows.Resolved.{resolution}
-use Rattle.cjc_narrow_proof.specs.Narrow.Pairs.Roles.{with_pairs}
-use Rattle.cjc_narrow_proof.specs.Narrow.Written.Operands.{IsAscending}
-use Rattle.cjc_narrow_proof.specs.Narrow.Rows.Selected.{near_fields, paired, selected_code}
-use Rattle.cjc_methods.specs.NCode.Written.{Resolution, place_in, reached, widest_sum}
-use Rattle.cjc_methods.specs.NCode.declared.narrow.NInsn.{NInsn}
-use Rattle.cjc_methods.specs.NCode.declared.narrow.NInsn.TheVariants as insns
-use Rattle.cjc_methods.specs.NCode.declared.narrow.NMethod.{NMethod}
-use Rattle.cjc_methods.specs.NCode.declared.narrow.PoolKey.{PoolKey}
-use Rattle.cjc_methods.specs.NCode.declared.narrow.PoolKey.TheVariants as keys
-use Rattle.cjc_methods.specs.Pool.Pool.{PoolView, calls, is_called, token_in, token_of}
+use Rattle.cjc_methods.specs.Layout.Forms.{HasForm}
+use Rattle.cjc_methods.specs.Layout.Layouts.{IsLayout, IsWhole}
+use Rattle.cjc_methods.specs.Layout.Sizes.{code_size}
+use Rattle.cjc_methods.specs.Layout.declared.layout.Layout.{Layout}
+use Rattle.cjc_methods.specs.List.Listed.{ListTree}
+use Rattle.cjc_narrow_proof.specs.NCode.Lowering.Naming.{Naming}
+use Rattle.cjc_methods.specs.Narrow.Rows.Resolved.{resolution}
+use Rattle.cjc_methods.specs.Narrow.Pairs.Roles.{with_pairs}
+use Rattle.cjc_methods.specs.Narrow.Written.Operands.{IsAscending}
+use Rattle.cjc_methods.specs.Narrow.Rows.Selected.{near_fields, paired, selected_code}
+use Rattle.cjc_narrow_proof.specs.NCode.Written.{Resolution, place_in, reached, widest_sum}
+use Rattle.cjc_narrow_proof.specs.NCode.declared.narrow.NInsn.{NInsn}
+use Rattle.cjc_narrow_proof.specs.NCode.declared.narrow.NInsn.TheVariants as insns
+use Rattle.cjc_narrow_proof.specs.NCode.declared.narrow.NMethod.{NMethod}
+use Rattle.cjc_narrow_proof.specs.NCode.declared.narrow.PoolKey.{PoolKey}
+use Rattle.cjc_narrow_proof.specs.NCode.declared.narrow.PoolKey.TheVariants as keys
+use Rattle.cjc_methods.specs.LowerPool.Pool.{PoolView, calls, is_called, token_in, token_of}
 use Rattle.cjc_methods.proofs.PoolKeys.{names_there}
-use Rattle.cjc_methods.specs.Pool.Named.{CallsHaveTokens}
+use Rattle.cjc_methods.specs.LowerPool.Named.{CallsHaveTokens}
 use Rattle.cjc_narrow_proof.proofs.SelectedLaws.Calls.{called_from}
 use Rattle.cjc_narrow_proof.proofs.SelectedLaws.Decoded.{one_of_all, operands_fit}
 use Rattle.cjc_narrow_proof.proofs.SelectedLaws.Formed.{all_have_forms}
@@ -40,12 +40,12 @@ use Rattle.cjc_narrow_proof.proofs.SelectedLaws.Numbers.{selected_fit}
 use Rattle.cjc_narrow_proof.proofs.SelectedLaws.Places.{reached_from}
 use Rattle.cjc_narrow_proof.proofs.SelectedLaws.Said.{all_said}
 use Rattle.cjc_narrow_proof.specs.Selected.Operands.{IndexFits, IsSmall, NumbersFit, OperandsFit}
-use Rattle.cjc_narrow_proof.specs.Subset.Ints.{code_works_on_int}
-use Rattle.cjc_narrow_proof.specs.Subset.Names.{names_missing, names_unfit, names_unfound}
-use Rattle.cjc_exported.specs.Tokens.Tokens.{assigned}
-use Rattle.cjc_methods.specs.World.Classes.{all_classes}
-use Rattle.cjc_narrow_proof.specs.Narrow.Written.Operands.{CanBeSaid as IsSaid}
-use Rattle.cjc_narrow_proof.specs.Narrow.Written.Rows.{has_rows, rows_by}
+use Rattle.cjc_methods.specs.Subset.Ints.{code_works_on_int}
+use Rattle.cjc_methods.specs.Subset.Names.{names_missing, names_unfit, names_unfound}
+use Rattle.cjc_methods.specs.Tokens.Tokens.{assigned}
+use Rattle.cjc_exported.specs.World.Classes.{all_classes}
+use Rattle.cjc_methods.specs.Narrow.Written.Operands.{CanBeSaid as IsSaid}
+use Rattle.cjc_methods.specs.Narrow.Written.Rows.{has_rows, rows_by}
 use Rattle.cjc_shape.specs.Judged.Pooled.{ArePooled, IsSelected}
 use Rattle.cjc_shape.specs.Judged.Tested.{IsTested, states}
 use Rattle.cjc_shape.proofs.JudgedLaws.Called.{IsDeclared, is_fit, is_found, is_there, resolved_declared}

@@ -6,17 +6,17 @@ use Rattle.std.specs.Str.{bytes_eq}
 use Rattle.std.proofs.lemmas.List.Quantifiers.{position-Some}
 use Rattle.std.proofs.lemmas.Option.{slice_get-get_or}
 use Rattle.std.proofs.lemmas.Slice.Eq.{bytes_eq-Decides}
-use Rattle.cjc_narrow_proof.specs.JvmSemantics.OnePackage.{method_hit}
+use Rattle.cjc_methods.specs.JvmSemantics.OnePackage.{method_hit}
 use Rattle.cjc_narrow_proof.proofs.VTableAsked.{Among, at_head, further}
 use Rattle.cjc_narrow_proof.proofs.VTableFiled.{at-number}
 use Rattle.cjc_narrow_proof.proofs.VTableStood.{gathered-named, upwards-named}
 use Rattle.cjc_methods.proofs.WorldSettled.{supertypes-AreSupertypes, supertypes-known}
-use Rattle.cjc_methods.specs.World.Classes.{Class, Member, all_classes, class_named}
-use Rattle.cjc_methods.specs.World.Files.{Files}
-use Rattle.cjc_methods.specs.World.Interfaces.{gathered, known}
-use Rattle.cjc_methods.specs.World.Supertypes.{IsAcyclic, supertypes, line, upwards}
-use Rattle.cjc_methods.specs.World.Lookup.{find_method, first, is_called, is_wanted, member_at, or_else, own_method}
-use Rattle.cjc_methods.specs.World.declared.found.Found.{Found}
+use Rattle.cjc_exported.specs.World.Classes.{Class, Member, all_classes, class_named}
+use Rattle.cjc_exported.specs.World.Files.{Files}
+use Rattle.cjc_exported.specs.World.Interfaces.{gathered, known}
+use Rattle.cjc_exported.specs.World.Supertypes.{IsAcyclic, supertypes, line, upwards}
+use Rattle.cjc_exported.specs.World.Lookup.{find_method, first, is_called, is_wanted, member_at, or_else, own_method}
+use Rattle.cjc_exported.specs.World.declared.found.Found.{Found}
 use Rattle.cjc_methods.proofs.BytesBools.{both_front, both_back}
 
 -- A method at its place in its class.

@@ -1,43 +1,43 @@
 -- The methods of a package that was tested keep the rules that selection rests on.
 use Rattle.std.proofs.Common.{◌≡◌, ℕ, zero, suc, refl, sym, ap, subst, ◌∙◌, List, [], ◌∷◌, slice_get, Some, false}
 use Rattle.std.proofs.lemmas.Option.{get_or_from_slice_get, slice_get_within}
-use Rattle.cjc_methods.specs.Bytes.Format.{FileSpells}
-use Rattle.cjc_methods.specs.Bytes.declared.fault.MemberId.{MemberId}
-use Rattle.cjc_methods.specs.Bytes.declared.settings.FileLine.{FileLine}
-use Rattle.cjc_methods.specs.ClassFile.ClassFile.{class_file}
-use Rattle.cjc_methods.specs.ClassFile.Code.{CodeTree}
-use Rattle.cjc_methods.specs.ClassFile.declared.tree.ClassTree.{ClassTree}
-use Rattle.cjc_methods.specs.ClassFile.declared.tree.MethodTree.{MethodTree}
-use Rattle.cjc_narrow_proof.specs.Bytecode.PackageCodes.{all_codes}
-use Rattle.cjc_narrow_proof.specs.Bytecode.declared.method_code.MethodCode.{MethodCode}
+use Rattle.cjc_exported.specs.Bytes.Format.{FileSpells}
+use Rattle.cjc_exported.specs.Bytes.declared.fault.MemberId.{MemberId}
+use Rattle.cjc_exported.specs.Bytes.declared.settings.FileLine.{FileLine}
+use Rattle.cjc_exported.specs.ClassFile.ClassFile.{class_file}
+use Rattle.cjc_exported.specs.ClassFile.Code.{CodeTree}
+use Rattle.cjc_exported.specs.ClassFile.declared.tree.ClassTree.{ClassTree}
+use Rattle.cjc_exported.specs.ClassFile.declared.tree.MethodTree.{MethodTree}
+use Rattle.cjc_methods.specs.Bytecode.PackageCodes.{all_codes}
+use Rattle.cjc_methods.specs.Bytecode.declared.method_code.MethodCode.{MethodCode}
 use Rattle.cjc_judge.specs.declared.groups.Group.TheVariants as groups
 use Rattle.cjc_judge.specs.declared.judged.Judged.{Judged}
-use Rattle.cjc_methods.specs.ExportFile.Writable.{IsWritable}
-use Rattle.cjc_methods.specs.ExportFile.declared.tree.ExportTree.{ExportTree}
+use Rattle.cjc_narrow_proof.specs.ExportFile.Writable.{IsWritable}
+use Rattle.cjc_narrow_proof.specs.ExportFile.declared.tree.ExportTree.{ExportTree}
 use Rattle.cjc_judge.specs.Rules.{AreWorld, files_spelt, of_group, of_names, of_world, settings_of, world_files}
 use Rattle.cjc_judge.specs.Spelt.{FileTree, classes_of, exports_of, of_class, of_export}
 use Rattle.cjc_judge.specs.Trees.{AllSpelt}
 use Rattle.cjc_judge.specs.Types.{AreTables, IsTableOf}
-use Rattle.cjc_exported.specs.Layout.Layouts.{IsWhole}
-use Rattle.cjc_judge.specs.List.Listed.{ListTree}
+use Rattle.cjc_methods.specs.Layout.Layouts.{IsWhole}
+use Rattle.cjc_methods.specs.List.Listed.{ListTree}
 use Rattle.cjc_judge.proofs.Firsts.{all_spell}
-use Rattle.cjc_narrow_proof.specs.Narrow.Rows.Selected.{selected_code}
-use Rattle.cjc_narrow_proof.specs.Narrow.Select.Select.{IsSelectable}
+use Rattle.cjc_methods.specs.Narrow.Rows.Selected.{selected_code}
+use Rattle.cjc_methods.specs.Narrow.Select.Select.{IsSelectable}
 use Rattle.cjc_narrow_proof.specs.Selected.Keeps.{KeepsRules}
 use Rattle.cjc_narrow_proof.proofs.SelectedLaws.Selectable.{selectable}
 use Rattle.cjc_narrow_proof.proofs.SelectedLaws.Whole.{selected_whole}
-use Rattle.cjc_narrow_proof.specs.Subset.Checks.{check_breaks}
-use Rattle.cjc_narrow_proof.specs.Subset.Ints.{code_works_on_int}
-use Rattle.cjc_narrow_proof.specs.Subset.Names.{name_breaks}
-use Rattle.cjc_narrow_proof.specs.Types.declared.table.TypeTable.{TypeTable}
-use Rattle.cjc_narrow_proof.specs.Types.Flow.{body_of}
-use Rattle.cjc_narrow_proof.specs.Types.Tables.{IsLeastTable, IsTypeTable}
-use Rattle.cjc_methods.specs.World.Classes.{all_classes}
-use Rattle.cjc_methods.specs.World.Files.{Files}
-use Rattle.cjc_methods.specs.World.Supertypes.{IsAcyclic}
-use Rattle.cjc_methods.specs.World.Rules.{breaks}
+use Rattle.cjc_methods.specs.Subset.Checks.{check_breaks}
+use Rattle.cjc_methods.specs.Subset.Ints.{code_works_on_int}
+use Rattle.cjc_methods.specs.Subset.Names.{name_breaks}
+use Rattle.cjc_methods.specs.Types.declared.table.TypeTable.{TypeTable}
+use Rattle.cjc_methods.specs.Types.Flow.{body_of}
+use Rattle.cjc_methods.specs.Types.Tables.{IsLeastTable, IsTypeTable}
+use Rattle.cjc_exported.specs.World.Classes.{all_classes}
+use Rattle.cjc_exported.specs.World.Files.{Files}
+use Rattle.cjc_exported.specs.World.Supertypes.{IsAcyclic}
+use Rattle.cjc_exported.specs.World.Rules.{breaks}
 use Rattle.cjc_methods.proofs.WorldUnbroken.{unbroken_is_acyclic}
-use Rattle.cjc_narrow_proof.specs.Narrow.Written.Rows.{has_rows, rows_by}
+use Rattle.cjc_methods.specs.Narrow.Written.Rows.{has_rows, rows_by}
 use Rattle.cjc_shape.specs.Judged.Tested.{IsOne, IsTested, states}
 use Rattle.cjc_methods.proofs.BytesBrokenRules.{no_breaks}
 

@@ -9,40 +9,40 @@ use Rattle.std.proofs.lemmas.List.{length-map, map-append}
 use Rattle.std.proofs.lemmas.List.Elements.{Contains-append_right}
 use Rattle.std.proofs.lemmas.List.Quantifiers.{position-Some}
 use Rattle.std.proofs.lemmas.Option.{slice_get-map}
-use Rattle.cjc_methods.specs.Bytes.AccessFlags.{is_interface}
-use Rattle.cjc_methods.specs.Bytes.Breaks.{Break}
-use Rattle.cjc_methods.specs.Bytes.Order.{file_of}
-use Rattle.cjc_methods.specs.Bytes.declared.settings.FileLine.{FileLine}
-use Rattle.cjc_methods.specs.ClassFile.declared.tree.ClassTree.{ClassTree}
-use Rattle.cjc_methods.specs.ClassFile.declared.tree.FieldTree.{FieldTree}
-use Rattle.cjc_methods.specs.ExportFile.Writable.{ClassFits, IsWritable, MethodFits, MethodStands}
-use Rattle.cjc_methods.specs.ExportFile.declared.tree.ExportClass.{ExportClass}
-use Rattle.cjc_methods.specs.ExportFile.declared.tree.ExportMethod.{ExportMethod}
-use Rattle.cjc_methods.specs.ExportFile.declared.tree.ExportTree.{ExportTree}
-use Rattle.cjc_narrow_proof.specs.Subset.Members.{imports}
+use Rattle.cjc_exported.specs.Bytes.AccessFlags.{is_interface}
+use Rattle.cjc_exported.specs.Bytes.Breaks.{Break}
+use Rattle.cjc_exported.specs.Bytes.Order.{file_of}
+use Rattle.cjc_exported.specs.Bytes.declared.settings.FileLine.{FileLine}
+use Rattle.cjc_exported.specs.ClassFile.declared.tree.ClassTree.{ClassTree}
+use Rattle.cjc_exported.specs.ClassFile.declared.tree.FieldTree.{FieldTree}
+use Rattle.cjc_narrow_proof.specs.ExportFile.Writable.{ClassFits, IsWritable, MethodFits, MethodStands}
+use Rattle.cjc_narrow_proof.specs.ExportFile.declared.tree.ExportClass.{ExportClass}
+use Rattle.cjc_narrow_proof.specs.ExportFile.declared.tree.ExportMethod.{ExportMethod}
+use Rattle.cjc_narrow_proof.specs.ExportFile.declared.tree.ExportTree.{ExportTree}
+use Rattle.cjc_methods.specs.Subset.Members.{imports}
 use Rattle.cjc_methods.proofs.TokensMeant.{has_token}
 use Rattle.cjc_methods.proofs.TokensFacts.{position-cons, same-refl}
 use Rattle.cjc_methods.proofs.TokensMeans.{kept-at}
-use Rattle.cjc_exported.specs.Tokens.Fields.{field_tokens, is_open_static}
-use Rattle.cjc_exported.specs.Tokens.Lines.{line_at}
-use Rattle.cjc_exported.specs.Tokens.Members.{is_initialiser, same, signature_of}
-use Rattle.cjc_exported.specs.Tokens.Methods.{class_method_tokens, interface_methods, interface_token, is_open_bound}
-use Rattle.cjc_exported.specs.Tokens.Rules.{at_class, breaks_from, breaks_where, has_high_method, has_high_token}
-use Rattle.cjc_exported.specs.Tokens.Rules.{token_breaks}
-use Rattle.cjc_exported.specs.Tokens.Slots.{hidden_slots, shown_token}
-use Rattle.cjc_exported.specs.Tokens.Tokens.{assigned, imports_of, joined, listed_field_token, listed_method_token}
-use Rattle.cjc_exported.specs.Tokens.Tokens.{method_tokens, of_import, token_of_member}
+use Rattle.cjc_methods.specs.Tokens.Fields.{field_tokens, is_open_static}
+use Rattle.cjc_methods.specs.Tokens.Lines.{line_at}
+use Rattle.cjc_methods.specs.Tokens.Members.{is_initialiser, same, signature_of}
+use Rattle.cjc_methods.specs.Tokens.Methods.{class_method_tokens, interface_methods, interface_token, is_open_bound}
+use Rattle.cjc_methods.specs.Tokens.Rules.{at_class, breaks_from, breaks_where, has_high_method, has_high_token}
+use Rattle.cjc_methods.specs.Tokens.Rules.{token_breaks}
+use Rattle.cjc_methods.specs.Tokens.Slots.{hidden_slots, shown_token}
+use Rattle.cjc_methods.specs.Tokens.Tokens.{assigned, imports_of, joined, listed_field_token, listed_method_token}
+use Rattle.cjc_methods.specs.Tokens.Tokens.{method_tokens, of_import, token_of_member}
 use Rattle.cjc_narrow_proof.proofs.VTableFiled.{Has, IsFiled, filed, get-has, has-get, in_class_file}
 use Rattle.cjc_narrow_proof.proofs.VTableFiled.{in_export_file, of-imports}
-use Rattle.cjc_methods.specs.World.Added.{added, asked_by, own_methods, without_initialiser}
-use Rattle.cjc_methods.specs.World.Classes.{Class, Member, all_classes, class_named, declared, field_of_class}
-use Rattle.cjc_methods.specs.World.Classes.{field_of_export}
-use Rattle.cjc_methods.specs.World.Classes.{imported, method_of_export}
-use Rattle.cjc_methods.specs.World.Exported.{is_exported}
-use Rattle.cjc_methods.specs.World.Files.{Files}
-use Rattle.cjc_methods.specs.World.Supertypes.{supertypes}
-use Rattle.cjc_methods.specs.World.declared.found.Found.{Found}
-use Rattle.cjc_methods.specs.Fixpoint.Working.Edges.{contains_head, contains_tail}
+use Rattle.cjc_exported.specs.World.Added.{added, asked_by, own_methods, without_initialiser}
+use Rattle.cjc_exported.specs.World.Classes.{Class, Member, all_classes, class_named, declared, field_of_class}
+use Rattle.cjc_exported.specs.World.Classes.{field_of_export}
+use Rattle.cjc_exported.specs.World.Classes.{imported, method_of_export}
+use Rattle.cjc_exported.specs.World.Exported.{is_exported}
+use Rattle.cjc_exported.specs.World.Files.{Files}
+use Rattle.cjc_exported.specs.World.Supertypes.{supertypes}
+use Rattle.cjc_exported.specs.World.declared.found.Found.{Found}
+use Rattle.cjc_exported.specs.Fixpoint.Working.Edges.{contains_head, contains_tail}
 use Rattle.cjc_shape.proofs.JudgedLaws.Owners.{IsOwn}
 use Rattle.cjc_methods.proofs.BytesLists.{none_left, none_right}
 use Rattle.cjc_methods.proofs.BytesBools.{or_left}

@@ -2,16 +2,16 @@
 use Rattle.std.proofs.Common.{◌≡◌, ℕ, zero, suc, ◌+◌, ◌≤◌, refl, sym, ap, subst, ◌∙◌, arith, ⊎_elim, List, [], ◌∷◌}
 use Rattle.std.proofs.Common.{◌++◌, length}
 use Rattle.std.specs.Prelude.{Option, Some, None, Result, Ok, Err, slice_get, IfSome}
-use Rattle.cjc_methods.specs.Bytes.declared.breaks.BrokenAt.{BrokenAt}
-use Rattle.cjc_methods.specs.Bytes.declared.settings.FileLine.{FileLine}
-use Rattle.cjc_methods.specs.ClassFile.Code.{CodeTree}
-use Rattle.cjc_methods.specs.ClassFile.Fits.{ClassFits, CodeFits, MethodFits}
-use Rattle.cjc_methods.specs.ClassFile.declared.tree.ClassTree.{ClassTree}
-use Rattle.cjc_methods.specs.ClassFile.declared.tree.MethodTree.{MethodTree}
-use Rattle.cjc_narrow_proof.specs.Bytecode.Decoded.{decoding, decoding_at, of_code, of_method}
-use Rattle.cjc_narrow_proof.specs.Bytecode.PackageCodes.{of_classes, where_code}
-use Rattle.cjc_narrow_proof.specs.Bytecode.PackageCodes as package_codes
-use Rattle.cjc_narrow_proof.specs.Bytecode.declared.insn.JInsn.{JInsn}
+use Rattle.cjc_exported.specs.Bytes.declared.breaks.BrokenAt.{BrokenAt}
+use Rattle.cjc_exported.specs.Bytes.declared.settings.FileLine.{FileLine}
+use Rattle.cjc_exported.specs.ClassFile.Code.{CodeTree}
+use Rattle.cjc_exported.specs.ClassFile.Fits.{ClassFits, CodeFits, MethodFits}
+use Rattle.cjc_exported.specs.ClassFile.declared.tree.ClassTree.{ClassTree}
+use Rattle.cjc_exported.specs.ClassFile.declared.tree.MethodTree.{MethodTree}
+use Rattle.cjc_methods.specs.Bytecode.Decoded.{decoding, decoding_at, of_code, of_method}
+use Rattle.cjc_methods.specs.Bytecode.PackageCodes.{of_classes, where_code}
+use Rattle.cjc_methods.specs.Bytecode.PackageCodes as package_codes
+use Rattle.cjc_methods.specs.Bytecode.declared.insn.JInsn.{JInsn}
 use Rattle.cjc_judge.specs.Codes.{all_unsupported_insns, unsupported_with}
 use Rattle.cjc_judge.specs.Spelt.{FileTree, classes_of, of_class, of_export}
 use Rattle.cjc_judge.specs.Trees.{AllSpelt, AreInstructions}

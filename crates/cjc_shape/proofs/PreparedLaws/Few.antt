@@ -6,17 +6,17 @@ use Rattle.std.specs.List.{fold}
 use Rattle.std.specs.Str.{bytes_eq}
 use Rattle.std.proofs.lemmas.Bool.{ltb-false}
 use Rattle.std.proofs.lemmas.List.Sums.{sum_by-cons}
-use Rattle.cjc_methods.specs.Bytes.AccessFlags.{is_static}
-use Rattle.cjc_methods.specs.Bytes.declared.settings.Settings.{Settings}
-use Rattle.cjc_methods.specs.ClassFile.declared.tree.ClassTree.{ClassTree}
-use Rattle.cjc_methods.specs.ClassFile.declared.tree.FieldTree.{FieldTree}
-use Rattle.cjc_narrow_proof.specs.Subset.Limits.{has_many_cells, has_many_exported, cells as cells_by_flag}
-use Rattle.cjc_exported.specs.Tokens.Fields.{cells, instance_cells, is_instance}
-use Rattle.cjc_exported.specs.Tokens.Rules.{FewExported, HasFewCells, count_exported}
-use Rattle.cjc_exported.specs.Tokens.Tokens.{one_more}
-use Rattle.cjc_methods.specs.World.Classes.{Class, all_classes, declared}
-use Rattle.cjc_methods.specs.World.Exported.{is_exported}
-use Rattle.cjc_methods.specs.World.Files.{Files}
+use Rattle.cjc_exported.specs.Bytes.AccessFlags.{is_static}
+use Rattle.cjc_exported.specs.Bytes.declared.settings.Settings.{Settings}
+use Rattle.cjc_exported.specs.ClassFile.declared.tree.ClassTree.{ClassTree}
+use Rattle.cjc_exported.specs.ClassFile.declared.tree.FieldTree.{FieldTree}
+use Rattle.cjc_methods.specs.Subset.Limits.{has_many_cells, has_many_exported, cells as cells_by_flag}
+use Rattle.cjc_methods.specs.Tokens.Fields.{cells, instance_cells, is_instance}
+use Rattle.cjc_methods.specs.Tokens.Rules.{FewExported, HasFewCells, count_exported}
+use Rattle.cjc_methods.specs.Tokens.Tokens.{one_more}
+use Rattle.cjc_exported.specs.World.Classes.{Class, all_classes, declared}
+use Rattle.cjc_exported.specs.World.Exported.{is_exported}
+use Rattle.cjc_exported.specs.World.Files.{Files}
 
 -- ---- 401
 

@@ -6,16 +6,16 @@ use Rattle.std.specs.Prelude.{Some, nat_lt, slice_get, if◌then◌else◌}
 use Rattle.std.specs.List.{list_all}
 use Rattle.std.proofs.lemmas.Option.{slice_get-get_or}
 use Rattle.std.proofs.lemmas.Bool.{and_from}
-use Rattle.cjc_methods.specs.Bytes.Breaks.{Break, each_from}
-use Rattle.cjc_methods.specs.Bytes.Order.{file_of}
-use Rattle.cjc_methods.specs.Bytes.declared.settings.Settings.{Settings}
-use Rattle.cjc_methods.specs.ClassFile.declared.tree.ClassTree.{ClassTree}
-use Rattle.cjc_narrow_proof.specs.Bytecode.declared.method_code.MethodCode.{MethodCode}
-use Rattle.cjc_narrow_proof.specs.Subset.Checks.{check_breaks, class_breaks, code_breaks, list_breaks, own_breaks}
-use Rattle.cjc_narrow_proof.specs.Subset.Limits.{has_many_exported}
-use Rattle.cjc_exported.specs.Tokens.Rules.{FewCells, FewExported, HasFewCells, has_few_cells, has_few_exported, is_few}
-use Rattle.cjc_exported.specs.Tokens.Rules.{tested_breaks, token_breaks}
-use Rattle.cjc_methods.specs.World.Files.{Files}
+use Rattle.cjc_exported.specs.Bytes.Breaks.{Break, each_from}
+use Rattle.cjc_exported.specs.Bytes.Order.{file_of}
+use Rattle.cjc_exported.specs.Bytes.declared.settings.Settings.{Settings}
+use Rattle.cjc_exported.specs.ClassFile.declared.tree.ClassTree.{ClassTree}
+use Rattle.cjc_methods.specs.Bytecode.declared.method_code.MethodCode.{MethodCode}
+use Rattle.cjc_methods.specs.Subset.Checks.{check_breaks, class_breaks, code_breaks, list_breaks, own_breaks}
+use Rattle.cjc_methods.specs.Subset.Limits.{has_many_exported}
+use Rattle.cjc_methods.specs.Tokens.Rules.{FewCells, FewExported, HasFewCells, has_few_cells, has_few_exported, is_few}
+use Rattle.cjc_methods.specs.Tokens.Rules.{tested_breaks, token_breaks}
+use Rattle.cjc_exported.specs.World.Files.{Files}
 use Rattle.cjc_shape.proofs.PreparedLaws.Few.{few-cells, few-exported}
 use Rattle.cjc_methods.proofs.BytesBrokenRules.{not_broken, each_at}
 use Rattle.cjc_methods.proofs.BytesLists.{none_left, none_right}

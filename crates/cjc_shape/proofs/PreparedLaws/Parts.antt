@@ -2,10 +2,10 @@
 use Rattle.std.proofs.Common.{◌≡◌, ℕ, refl, sym, ap, ◌∙◌, false, List, [], ◌∷◌}
 use Rattle.std.specs.Prelude.{All, Result, Ok, Err, IfOk, map}
 use Rattle.std.proofs.lemmas.List.Elements.{All-head, All-tail}
-use Rattle.cjc_exported.specs.ClassOrder.Classes.Numbers.{IsOfKind, declared_at}
+use Rattle.cjc_methods.specs.ClassOrder.Classes.Numbers.{IsOfKind, declared_at}
 use Rattle.cjc_narrow_proof.proofs.VTableNumbers.{own_listed}
-use Rattle.cjc_methods.specs.World.Classes.{all_classes, class_at}
-use Rattle.cjc_methods.specs.World.Files.{Files}
+use Rattle.cjc_exported.specs.World.Classes.{all_classes, class_at}
+use Rattle.cjc_exported.specs.World.Files.{Files}
 
 pub ok_map : {A E : Type 0} (r : Result A E) (P Q : A → Type 0) → ((x : A) → P x → Q x) → IfOk r P → IfOk r Q
 ok_map (Ok x) P Q f h = f x h

@@ -4,28 +4,28 @@ use Rattle.std.proofs.Common.{[], ◌∷◌, length}
 use Rattle.std.specs.Prelude.{All, Option, Some, None, map, option_map, position, slice_get, if◌then◌else◌, Result, Ok}
 use Rattle.std.specs.Str.{bytes_eq}
 use Rattle.std.proofs.lemmas.Option.{slice_get-map}
-use Rattle.cjc_methods.specs.Bytes.declared.breaks.BrokenAt.{BrokenAt}
-use Rattle.cjc_methods.specs.Bytes.declared.fault.MemberId.{MemberId}
-use Rattle.cjc_methods.specs.ClassFile.Code.{CodeTree}
-use Rattle.cjc_methods.specs.ClassFile.declared.tree.ClassTree.{ClassTree}
-use Rattle.cjc_methods.specs.ClassFile.declared.tree.MethodTree.{MethodTree}
-use Rattle.cjc_exported.specs.ClassOrder.Classes.Numbers.{class_count}
-use Rattle.cjc_narrow_proof.specs.JvmSemantics.Linked.{Method}
-use Rattle.cjc_narrow_proof.specs.JvmSemantics.OnePackage.{method_by}
-use Rattle.cjc_narrow_proof.specs.Bytecode.Decoded.{decoding_at}
-use Rattle.cjc_narrow_proof.specs.Bytecode.declared.insn.JInsn.{JInsn}
-use Rattle.cjc_narrow_proof.specs.Bytecode.declared.method_code.MethodCode.{MethodCode}
+use Rattle.cjc_exported.specs.Bytes.declared.breaks.BrokenAt.{BrokenAt}
+use Rattle.cjc_exported.specs.Bytes.declared.fault.MemberId.{MemberId}
+use Rattle.cjc_exported.specs.ClassFile.Code.{CodeTree}
+use Rattle.cjc_exported.specs.ClassFile.declared.tree.ClassTree.{ClassTree}
+use Rattle.cjc_exported.specs.ClassFile.declared.tree.MethodTree.{MethodTree}
+use Rattle.cjc_methods.specs.ClassOrder.Classes.Numbers.{class_count}
+use Rattle.cjc_methods.specs.JvmSemantics.Linked.{Method}
+use Rattle.cjc_methods.specs.JvmSemantics.OnePackage.{method_by}
+use Rattle.cjc_methods.specs.Bytecode.Decoded.{decoding_at}
+use Rattle.cjc_methods.specs.Bytecode.declared.insn.JInsn.{JInsn}
+use Rattle.cjc_methods.specs.Bytecode.declared.method_code.MethodCode.{MethodCode}
 use Rattle.cjc_methods.specs.Ready.{AreRows, states}
 use Rattle.cjc_narrow_proof.proofs.LawsLaws.Own.{class_by_name, first_here, own_kept}
-use Rattle.cjc_narrow_proof.specs.Types.declared.state.State.{State}
-use Rattle.cjc_narrow_proof.specs.Types.declared.table.TypeTable.{TypeTable}
-use Rattle.cjc_narrow_proof.specs.Types.Flow.{body_of}
-use Rattle.cjc_narrow_proof.specs.Types.Tables.{IsMethodOf, IsTypeTable, rows_of}
+use Rattle.cjc_methods.specs.Types.declared.state.State.{State}
+use Rattle.cjc_methods.specs.Types.declared.table.TypeTable.{TypeTable}
+use Rattle.cjc_methods.specs.Types.Flow.{body_of}
+use Rattle.cjc_methods.specs.Types.Tables.{IsMethodOf, IsTypeTable, rows_of}
 use Rattle.cjc_narrow_proof.proofs.TypesLeast.{one_least}
-use Rattle.cjc_methods.specs.World.Classes.{Class, all_classes, class_named, declared, method_of_class}
-use Rattle.cjc_methods.specs.World.Files.{Files}
-use Rattle.cjc_methods.specs.World.Lookup.{is_called}
-use Rattle.cjc_methods.specs.World.Rules.{breaks, is_twice}
+use Rattle.cjc_exported.specs.World.Classes.{Class, all_classes, class_named, declared, method_of_class}
+use Rattle.cjc_exported.specs.World.Files.{Files}
+use Rattle.cjc_exported.specs.World.Lookup.{is_called}
+use Rattle.cjc_exported.specs.World.Rules.{breaks, is_twice}
 use Rattle.cjc_methods.proofs.BytesLists.{name_is, bytes_true}
 use Rattle.cjc_methods.proofs.BytesBools.{both_front, both_back}
 

@@ -2,16 +2,16 @@
 use Rattle.std.proofs.Common.{◌≡◌, ℕ, ◌≤◌, refl, sym, ap, subst, ◌∙◌, arith, Bool, true, false, List, [], ◌∷◌}
 use Rattle.std.proofs.Common.{length}
 use Rattle.std.specs.Prelude.{Some, Err, cond, slice_get}
-use Rattle.cjc_methods.specs.Bytes.Breaks.{Break, broken_at}
-use Rattle.cjc_methods.specs.Bytes.Order.{FilePlace, file_of}
-use Rattle.cjc_methods.specs.Bytes.declared.settings.FileLine.{FileLine}
-use Rattle.cjc_methods.specs.ClassFile.Code.{CodeTree}
-use Rattle.cjc_methods.specs.ClassFile.declared.tree.ClassTree.{ClassTree}
-use Rattle.cjc_methods.specs.ClassFile.declared.tree.MethodTree.{MethodTree}
-use Rattle.cjc_exported.specs.ClassOrder.Classes.Numbers.{class_count}
-use Rattle.cjc_judge.specs.Clinit.Rules.{BreaksImage}
-use Rattle.cjc_narrow_proof.specs.Bytecode.Decoded.{of_code}
-use Rattle.cjc_narrow_proof.specs.Bytecode.PackageCodes.{all_codes}
+use Rattle.cjc_exported.specs.Bytes.Breaks.{Break, broken_at}
+use Rattle.cjc_exported.specs.Bytes.Order.{FilePlace, file_of}
+use Rattle.cjc_exported.specs.Bytes.declared.settings.FileLine.{FileLine}
+use Rattle.cjc_exported.specs.ClassFile.Code.{CodeTree}
+use Rattle.cjc_exported.specs.ClassFile.declared.tree.ClassTree.{ClassTree}
+use Rattle.cjc_exported.specs.ClassFile.declared.tree.MethodTree.{MethodTree}
+use Rattle.cjc_methods.specs.ClassOrder.Classes.Numbers.{class_count}
+use Rattle.cjc_methods.specs.Clinit.Rules.{BreaksImage}
+use Rattle.cjc_methods.specs.Bytecode.Decoded.{of_code}
+use Rattle.cjc_methods.specs.Bytecode.PackageCodes.{all_codes}
 use Rattle.cjc_judge.specs.declared.groups.Group.TheVariants as groups
 use Rattle.cjc_judge.specs.declared.judged.Judged.{Judged}
 use Rattle.cjc_judge.specs.Codes.{all_unsupported_insns}
@@ -23,17 +23,17 @@ use Rattle.cjc_judge.specs.Trees.{AllSpelt}
 use Rattle.cjc_shape.specs.Judged.Tested.{IsOne, IsTested}
 use Rattle.cjc_shape.proofs.JudgedLaws.Selected.{is_world, judged_checks, judged_names, judged_selectable, judged_whole}
 use Rattle.cjc_shape.proofs.JudgedLaws.Selected.{same_codes, same_world, types}
-use Rattle.cjc_judge.specs.List.Listed.{ListTree}
+use Rattle.cjc_methods.specs.List.Listed.{ListTree}
 use Rattle.cjc_judge.proofs.Firsts.{all_spell}
 use Rattle.cjc_judge.proofs.Tables.{tables_sized}
 use Rattle.cjc_methods.specs.Ready.{AreReady, IsDecoded}
 use Rattle.cjc_narrow_proof.specs.Laws.Unbroken.{IsUnbroken}
 use Rattle.cjc_narrow_proof.proofs.LawsLaws.Own.{flags_by_name}
-use Rattle.cjc_narrow_proof.specs.Subset.Ints.{any_works_on_int}
-use Rattle.cjc_narrow_proof.specs.Subset.Places.{at_method, of_class, of_method}
-use Rattle.cjc_exported.specs.Tokens.Rules.{FewCells, FewExported, tested_breaks, token_breaks}
-use Rattle.cjc_methods.specs.World.Files.{Files}
-use Rattle.cjc_methods.specs.World.Rules.{breaks}
+use Rattle.cjc_methods.specs.Subset.Ints.{any_works_on_int}
+use Rattle.cjc_methods.specs.Subset.Places.{at_method, of_class, of_method}
+use Rattle.cjc_methods.specs.Tokens.Rules.{FewCells, FewExported, tested_breaks, token_breaks}
+use Rattle.cjc_exported.specs.World.Files.{Files}
+use Rattle.cjc_exported.specs.World.Rules.{breaks}
 use Rattle.cjc_shape.specs.Prepared.{IsSound, tested}
 use Rattle.cjc_shape.proofs.PreparedLaws.Limited as limited
 use Rattle.cjc_shape.proofs.PreparedLaws.Decoded.{class_read, code_bytes, decoded_unless, unsupported_listed}

@@ -4,38 +4,38 @@ use Rattle.std.proofs.Common.{List, [], ◌∷◌, length}
 use Rattle.std.specs.Prelude.{All, Option, Some, None, map, slice_get}
 use Rattle.std.proofs.lemmas.List.{length-map}
 use Rattle.std.proofs.lemmas.Option.{slice_get-get_or, slice_get_within}
-use Rattle.cjc_methods.specs.Bytes.declared.fault.MemberId.{MemberId}
-use Rattle.cjc_narrow_proof.specs.JvmSemantics.Linked.{Method}
-use Rattle.cjc_narrow_proof.specs.JvmSemantics.OnePackage.{method_by}
-use Rattle.cjc_narrow_proof.specs.Bytecode.PackageCodes.{all_codes}
-use Rattle.cjc_methods.specs.Components.Package.{LaidMethod, Package, codes, pool}
-use Rattle.cjc_methods.specs.Components.Written.{code_at, is_abstract_at}
+use Rattle.cjc_exported.specs.Bytes.declared.fault.MemberId.{MemberId}
+use Rattle.cjc_methods.specs.JvmSemantics.Linked.{Method}
+use Rattle.cjc_methods.specs.JvmSemantics.OnePackage.{method_by}
+use Rattle.cjc_methods.specs.Bytecode.PackageCodes.{all_codes}
+use Rattle.cjc_exported.specs.Components.Package.{LaidMethod, Package, codes, pool}
+use Rattle.cjc_exported.specs.Components.Written.{code_at, is_abstract_at}
 use Rattle.cjc_judge.specs.declared.judged.Judged.{Judged}
 use Rattle.cjc_judge.specs.Rules.{files_spelt}
 use Rattle.cjc_judge.specs.Spelt.{FileTree}
 use Rattle.cjc_judge.proofs.Firsts.{one_spelling}
 use Rattle.cjc_shape.proofs.JudgedLaws.Selected.{is_world, same_world}
-use Rattle.cjc_judge.specs.List.Listed.{ListTree}
+use Rattle.cjc_methods.specs.List.Listed.{ListTree}
 use Rattle.cjc_methods.specs.Ready.{AreRows, IsOwn}
 use Rattle.cjc_methods.proofs.Again.{by_own_pool, same_pools}
 use Rattle.cjc_methods.proofs.Alike.{all_alike}
-use Rattle.cjc_narrow_proof.specs.Narrow.Rows.Selected.{near_fields}
-use Rattle.cjc_methods.specs.NCode.PoolOrder.{pool_order}
-use Rattle.cjc_methods.specs.NCode.declared.narrow.NMethod.{NMethod}
-use Rattle.cjc_methods.specs.NCode.declared.narrow.PoolKey.{PoolKey}
+use Rattle.cjc_methods.specs.Narrow.Rows.Selected.{near_fields}
+use Rattle.cjc_narrow_proof.specs.NCode.PoolOrder.{pool_order}
+use Rattle.cjc_narrow_proof.specs.NCode.declared.narrow.NMethod.{NMethod}
+use Rattle.cjc_narrow_proof.specs.NCode.declared.narrow.PoolKey.{PoolKey}
 use Rattle.cjc_shape.specs.Prepared.{IsSound}
 use Rattle.cjc_shape.proofs.PreparedLaws.Rows.{are_rows, rows_in}
 use Rattle.cjc_shape.proofs.PreparedLaws.Sound.{are_ready, is_tested, listed, world_unbroken}
-use Rattle.cjc_narrow_proof.specs.Types.declared.state.State.{State}
-use Rattle.cjc_narrow_proof.specs.Types.declared.table.TypeTable.{TypeTable}
-use Rattle.cjc_narrow_proof.specs.Types.Flow.{body_of}
-use Rattle.cjc_narrow_proof.specs.Types.Tables.{IsLeastTable, rows_of}
+use Rattle.cjc_methods.specs.Types.declared.state.State.{State}
+use Rattle.cjc_methods.specs.Types.declared.table.TypeTable.{TypeTable}
+use Rattle.cjc_methods.specs.Types.Flow.{body_of}
+use Rattle.cjc_methods.specs.Types.Tables.{IsLeastTable, rows_of}
 use Rattle.cjc_narrow_proof.proofs.TypesLeast.{one_least}
-use Rattle.cjc_methods.specs.World.declared.found.Found.{Found}
-use Rattle.cjc_methods.specs.World.declared.image.StaticImage.{StaticImage}
-use Rattle.cjc_methods.specs.World.Classes.{all_classes}
-use Rattle.cjc_methods.specs.World.Files.{Files}
-use Rattle.cjc_methods.specs.World.Order.{method_order}
+use Rattle.cjc_exported.specs.World.declared.found.Found.{Found}
+use Rattle.cjc_exported.specs.World.declared.image.StaticImage.{StaticImage}
+use Rattle.cjc_exported.specs.World.Classes.{all_classes}
+use Rattle.cjc_exported.specs.World.Files.{Files}
+use Rattle.cjc_exported.specs.World.Order.{method_order}
 use Rattle.cjc_shape.proofs.WholeLaws.Ordered.{all_own}
 use Rattle.cjc_shape.specs.Whole.Conversion.{AreLeast, IsDraft, IsSelected, IsSpeltBy}
 use Rattle.cjc_methods.proofs.BytesGets.{contained}

@@ -1,15 +1,15 @@
 -- No method of a package works on int whose list does not allow int, or that does not break 801.
 use Rattle.std.proofs.Common.{◌≡◌, ℕ, refl, sym, ap, subst, ◌∙◌, Bool, true, false, ◌&&◌, List, []}
-use Rattle.cjc_methods.specs.Bytes.Breaks.{IsFirstRefusal, at, list_spot}
-use Rattle.cjc_methods.specs.Bytes.declared.fault.Fault.{Fault}
-use Rattle.cjc_judge.specs.List.Listed.{ListTree}
+use Rattle.cjc_exported.specs.Bytes.Breaks.{IsFirstRefusal, at, list_spot}
+use Rattle.cjc_exported.specs.Bytes.declared.fault.Fault.{Fault}
+use Rattle.cjc_methods.specs.List.Listed.{ListTree}
 use Rattle.cjc_judge.specs.Rules.{settings_of}
 use Rattle.cjc_judge.specs.declared.judged.Judged.{Judged}
-use Rattle.cjc_methods.specs.Components.Limits.{code_breaks, form_breaks, int_breaks, spot_of_list}
-use Rattle.cjc_methods.specs.Components.Package.{Package}
-use Rattle.cjc_narrow_proof.specs.Bytecode.PackageCodes.{all_codes}
-use Rattle.cjc_narrow_proof.specs.Bytecode.declared.method_code.MethodCode.{MethodCode}
-use Rattle.cjc_narrow_proof.specs.Subset.Ints.{any_works_on_int}
+use Rattle.cjc_exported.specs.Components.Limits.{code_breaks, form_breaks, int_breaks, spot_of_list}
+use Rattle.cjc_exported.specs.Components.Package.{Package}
+use Rattle.cjc_methods.specs.Bytecode.PackageCodes.{all_codes}
+use Rattle.cjc_methods.specs.Bytecode.declared.method_code.MethodCode.{MethodCode}
+use Rattle.cjc_methods.specs.Subset.Ints.{any_works_on_int}
 use Rattle.cjc_narrow_proof.proofs.SelectedLaws.IntFree.{none_without}
 use Rattle.cjc_shape.specs.Prepared.{BreaksNothing, IsSound}
 use Rattle.cjc_shape.specs.Whole.Conversion.{IsPackageOf}
@@ -18,7 +18,7 @@ use Rattle.cjc_shape.proofs.JudgedLaws.Selected.{judged_checks}
 use Rattle.cjc_shape.proofs.PreparedLaws.Sound.{is_tested}
 use Rattle.cjc_shape.proofs.WholeLaws.Drafts.{draft, is_draft}
 use Rattle.cjc_shape.proofs.WholeLaws.Second.{both_none, is_base, package_is_draft}
-use Rattle.cjc_methods.specs.World.Files.{Files}
+use Rattle.cjc_exported.specs.World.Files.{Files}
 use Rattle.cjc_methods.proofs.BytesBrokenRules.{not_broken}
 use Rattle.cjc_methods.proofs.BytesBools.{both_true}
 

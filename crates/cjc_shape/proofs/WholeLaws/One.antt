@@ -2,18 +2,18 @@
 use Rattle.std.proofs.Common.{◌≡◌, ℕ, suc, refl, sym, ap, subst, ◌∙◌, arith, Bool, true, false, List}
 use Rattle.std.proofs.Common.{[], ◌∷◌, length}
 use Rattle.std.specs.Prelude.{Some, map, slice_get}
-use Rattle.cjc_narrow_proof.specs.Bytecode.PackageCodes.{all_codes}
-use Rattle.cjc_judge.specs.Clinit.Image.{IsImage}
+use Rattle.cjc_methods.specs.Bytecode.PackageCodes.{all_codes}
+use Rattle.cjc_methods.specs.Clinit.Image.{IsImage}
 use Rattle.cjc_judge.proofs.ClinitOneImage.{one-image}
-use Rattle.cjc_methods.specs.Components.Package.{LaidMethod, Package}
-use Rattle.cjc_methods.specs.Components.Written.{is_abstract_at}
+use Rattle.cjc_exported.specs.Components.Package.{LaidMethod, Package}
+use Rattle.cjc_exported.specs.Components.Written.{is_abstract_at}
 use Rattle.cjc_judge.specs.declared.judged.Judged.{Judged}
-use Rattle.cjc_exported.specs.Layout.Legal.{IsLeast, IsWithin}
-use Rattle.cjc_judge.specs.List.Listed.{ListTree}
-use Rattle.cjc_methods.specs.NCode.declared.narrow.NInsn.{NInsn}
-use Rattle.cjc_methods.specs.NCode.declared.narrow.NMethod.{NMethod}
+use Rattle.cjc_methods.specs.Layout.Legal.{IsLeast, IsWithin}
+use Rattle.cjc_methods.specs.List.Listed.{ListTree}
+use Rattle.cjc_narrow_proof.specs.NCode.declared.narrow.NInsn.{NInsn}
+use Rattle.cjc_narrow_proof.specs.NCode.declared.narrow.NMethod.{NMethod}
 use Rattle.cjc_shape.specs.Prepared.{IsSound}
-use Rattle.cjc_methods.specs.World.Files.{Files}
+use Rattle.cjc_exported.specs.World.Files.{Files}
 use Rattle.cjc_shape.specs.Whole.Conversion.{IsPackageOf}
 use Rattle.cjc_shape.proofs.WholeLaws.Drafts.{same_members, same_narrow, same_spelt}
 use Rattle.cjc_shape.proofs.WholeLaws.Second.{package_is_draft}

@@ -3,15 +3,15 @@ use Rattle.std.proofs.Common.{◌≡◌, ◌≤◌, refl, sym, ap, ◌∙◌, ar
 use Rattle.std.proofs.Common.{length}
 use Rattle.std.specs.Prelude.{All, Option, Some, None, map, option_map, slice_get}
 use Rattle.std.proofs.lemmas.Option.{slice_get_within}
-use Rattle.cjc_methods.specs.ClassFile.declared.tree.ClassTree.{ClassTree}
-use Rattle.cjc_exported.specs.ClassOrder.Classes.Numbers.{class_count, declared_at}
+use Rattle.cjc_exported.specs.ClassFile.declared.tree.ClassTree.{ClassTree}
+use Rattle.cjc_methods.specs.ClassOrder.Classes.Numbers.{class_count, declared_at}
 use Rattle.cjc_methods.proofs.ClassOrderDeclared.{order_declared}
 use Rattle.cjc_methods.specs.Ready.{IsOwn}
 use Rattle.cjc_methods.proofs.Ownership.{ordered_own}
 use Rattle.cjc_narrow_proof.proofs.VTableNumbers.{own_listed}
-use Rattle.cjc_methods.specs.World.Classes.{Class, all_classes, class_at, declared}
-use Rattle.cjc_methods.specs.World.Files.{Files}
-use Rattle.cjc_methods.specs.World.Order.{in_order, method_order}
+use Rattle.cjc_exported.specs.World.Classes.{Class, all_classes, class_at, declared}
+use Rattle.cjc_exported.specs.World.Files.{Files}
+use Rattle.cjc_exported.specs.World.Order.{in_order, method_order}
 
 module _ (files : Files) (listed : length files.classes ≤ class_count files.lines) where
   numbered : (c : Class) → Some c ≡ declared_at files.classes c.number → class_at (all_classes files) false c.number

@@ -5,26 +5,26 @@ use Rattle.std.proofs.Common.{◌++◌, length, nat_lt}
 use Rattle.std.specs.Prelude.{Option, Some, None, map}
 use Rattle.std.specs.List.{flat_map}
 use Rattle.std.proofs.lemmas.List.Concat.{flat_map-cons}
-use Rattle.cjc_methods.specs.Bytes.Breaks.{Among, Break, IsFirst, IsFirstRefusal, at}
-use Rattle.cjc_methods.specs.Bytes.Order.{NotAfter}
-use Rattle.cjc_methods.specs.Bytes.declared.fault.Fault.{Fault}
-use Rattle.cjc_methods.specs.Bytes.declared.fault.Fault.TheVariants as faults
-use Rattle.cjc_methods.specs.Components.ExportFile.{export_of}
-use Rattle.cjc_methods.specs.Components.Limits.{code_breaks, else_of, form_breaks, in_class, int_breaks, layout_breaks}
-use Rattle.cjc_methods.specs.Components.Limits.{limit_breaks, of_methods, size_breaks, spot_of_list, word_breaks}
-use Rattle.cjc_methods.specs.Components.Package.{LaidMethod, Package, codes, pool, world}
-use Rattle.cjc_methods.specs.ExportFile.Written.{constants}
+use Rattle.cjc_exported.specs.Bytes.Breaks.{Among, Break, IsFirst, IsFirstRefusal, at}
+use Rattle.cjc_exported.specs.Bytes.Order.{NotAfter}
+use Rattle.cjc_exported.specs.Bytes.declared.fault.Fault.{Fault}
+use Rattle.cjc_exported.specs.Bytes.declared.fault.Fault.TheVariants as faults
+use Rattle.cjc_exported.specs.Components.ExportFile.{export_of}
+use Rattle.cjc_exported.specs.Components.Limits.{code_breaks, else_of, form_breaks, in_class, int_breaks, layout_breaks}
+use Rattle.cjc_exported.specs.Components.Limits.{limit_breaks, of_methods, size_breaks, spot_of_list, word_breaks}
+use Rattle.cjc_exported.specs.Components.Package.{LaidMethod, Package, codes, pool, world}
+use Rattle.cjc_narrow_proof.specs.ExportFile.Written.{constants}
 use Rattle.cjc_judge.specs.declared.judged.Judged.{Judged}
 use Rattle.cjc_judge.specs.Rules.{Breach, IsFirstOf, OnLevels, on_first, on_second}
-use Rattle.cjc_judge.specs.List.Listed.{ListTree}
-use Rattle.cjc_methods.specs.NCode.PoolOrder.{pool_order}
-use Rattle.cjc_methods.specs.NCode.declared.narrow.NMethod.{NMethod}
+use Rattle.cjc_methods.specs.List.Listed.{ListTree}
+use Rattle.cjc_narrow_proof.specs.NCode.PoolOrder.{pool_order}
+use Rattle.cjc_narrow_proof.specs.NCode.declared.narrow.NMethod.{NMethod}
 use Rattle.cjc_shape.specs.Prepared.{IsSound, tested}
-use Rattle.cjc_methods.specs.World.declared.found.Found.{Found}
-use Rattle.cjc_methods.specs.World.declared.image.StaticImage.{StaticImage}
-use Rattle.cjc_methods.specs.World.Classes.{Class, all_classes, class_at}
-use Rattle.cjc_methods.specs.World.Files.{Files}
-use Rattle.cjc_methods.specs.World.Order.{method_order}
+use Rattle.cjc_exported.specs.World.declared.found.Found.{Found}
+use Rattle.cjc_exported.specs.World.declared.image.StaticImage.{StaticImage}
+use Rattle.cjc_exported.specs.World.Classes.{Class, all_classes, class_at}
+use Rattle.cjc_exported.specs.World.Files.{Files}
+use Rattle.cjc_exported.specs.World.Order.{method_order}
 use Rattle.cjc_shape.specs.Whole.Conversion.{BreaksWritten, IsDraft, IsPackageOf, of_form, of_size}
 use Rattle.cjc_shape.specs.Whole.Working.Shaped.{Stopped}
 use Rattle.cjc_shape.proofs.WholeLaws.Drafts.{draft, is_draft, narrow_codes, same_members, same_narrow, same_spelt}

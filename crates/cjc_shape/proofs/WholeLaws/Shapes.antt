@@ -1,27 +1,27 @@
 -- A package that breaks no rule of its files, with its methods laid out.
 use Rattle.std.proofs.Common.{◌≡◌, ℕ, refl, sym, ap, subst, ◌∙◌, inl, inr, List, [], ◌∷◌, length}
 use Rattle.std.specs.Prelude.{map}
-use Rattle.cjc_methods.specs.Bytes.Breaks.{Break, IsFirstRefusal}
-use Rattle.cjc_methods.specs.Bytes.declared.fault.Fault.{Fault}
-use Rattle.cjc_judge.specs.Clinit.Image.{IsImage}
-use Rattle.cjc_narrow_proof.specs.Bytecode.PackageCodes.{all_codes}
-use Rattle.cjc_methods.specs.Components.ExportFile.{export_of}
-use Rattle.cjc_methods.specs.Components.Limits.{code_breaks, else_of, form_breaks, int_breaks, of_methods, word_breaks}
-use Rattle.cjc_methods.specs.Components.Package.{Package, codes}
-use Rattle.cjc_methods.specs.Components.Written.{code_at}
-use Rattle.cjc_methods.specs.ExportFile.Written.{constants}
+use Rattle.cjc_exported.specs.Bytes.Breaks.{Break, IsFirstRefusal}
+use Rattle.cjc_exported.specs.Bytes.declared.fault.Fault.{Fault}
+use Rattle.cjc_methods.specs.Clinit.Image.{IsImage}
+use Rattle.cjc_methods.specs.Bytecode.PackageCodes.{all_codes}
+use Rattle.cjc_exported.specs.Components.ExportFile.{export_of}
+use Rattle.cjc_exported.specs.Components.Limits.{code_breaks, else_of, form_breaks, int_breaks, of_methods, word_breaks}
+use Rattle.cjc_exported.specs.Components.Package.{Package, codes}
+use Rattle.cjc_exported.specs.Components.Written.{code_at}
+use Rattle.cjc_narrow_proof.specs.ExportFile.Written.{constants}
 use Rattle.cjc_judge.specs.Rules.{has_applets}
 use Rattle.cjc_judge.specs.declared.judged.Judged.{Judged}
 use Rattle.cjc_methods.specs.Layouts.Laid.{AreOf}
 use Rattle.cjc_methods.specs.Layouts.Limits.{IsTold}
 use Rattle.cjc_methods.proofs.LayoutsLaws.Kept.{is_package}
-use Rattle.cjc_judge.specs.List.Listed.{ListTree}
-use Rattle.cjc_narrow_proof.specs.Narrow.Rows.Selected.{near_fields}
-use Rattle.cjc_methods.specs.NCode.PoolOrder.{pool_order}
-use Rattle.cjc_methods.specs.NCode.declared.narrow.NMethod.{NMethod}
+use Rattle.cjc_methods.specs.List.Listed.{ListTree}
+use Rattle.cjc_methods.specs.Narrow.Rows.Selected.{near_fields}
+use Rattle.cjc_narrow_proof.specs.NCode.PoolOrder.{pool_order}
+use Rattle.cjc_narrow_proof.specs.NCode.declared.narrow.NMethod.{NMethod}
 use Rattle.cjc_shape.specs.Prepared.{BreaksNothing, IsSound}
-use Rattle.cjc_exported.specs.Tokens.Tokens.{assigned}
-use Rattle.cjc_methods.specs.World.declared.found.Found.{Found}
+use Rattle.cjc_methods.specs.Tokens.Tokens.{assigned}
+use Rattle.cjc_exported.specs.World.declared.found.Found.{Found}
 use Rattle.cjc_shape.specs.Whole.Conversion.{IsDraft, IsPackageOf}
 use Rattle.cjc_shape.specs.Whole.Working.Shaped.{IsShaped, Stopped, package_of}
 use Rattle.cjc_shape.specs.declared.whole.shaping.Shaped.{Shaped}

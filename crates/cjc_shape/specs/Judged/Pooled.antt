@@ -1,20 +1,20 @@
 -- The methods of a tested package as they are selected by the indices of the pool that they need.
 use Rattle.std.specs.Prelude.{◌≡◌, ◌≤◌, ℕ, List, [], length, slice_get, Some, Bool, false}
-use Rattle.cjc_methods.specs.Bytes.declared.fault.MemberId.{MemberId}
-use Rattle.cjc_methods.specs.ClassFile.Code.{CodeTree}
-use Rattle.cjc_methods.specs.ClassFile.declared.tree.ClassTree.{ClassTree}
-use Rattle.cjc_methods.specs.ClassFile.declared.tree.MethodTree.{MethodTree}
-use Rattle.cjc_narrow_proof.specs.Bytecode.declared.method_code.MethodCode.{MethodCode}
+use Rattle.cjc_exported.specs.Bytes.declared.fault.MemberId.{MemberId}
+use Rattle.cjc_exported.specs.ClassFile.Code.{CodeTree}
+use Rattle.cjc_exported.specs.ClassFile.declared.tree.ClassTree.{ClassTree}
+use Rattle.cjc_exported.specs.ClassFile.declared.tree.MethodTree.{MethodTree}
+use Rattle.cjc_methods.specs.Bytecode.declared.method_code.MethodCode.{MethodCode}
 use Rattle.cjc_judge.specs.declared.judged.Judged.{Judged}
-use Rattle.cjc_narrow_proof.specs.Narrow.Rows.Selected.{near_fields, selected_code}
-use Rattle.cjc_methods.specs.NCode.declared.narrow.NInsn.{NInsn}
-use Rattle.cjc_methods.specs.NCode.declared.narrow.NMethod.{NMethod}
-use Rattle.cjc_methods.specs.Pool.Pool.{IsPool, PoolView, most_entries}
-use Rattle.cjc_exported.specs.Tokens.Rules.{token_breaks}
-use Rattle.cjc_exported.specs.Tokens.Tokens.{assigned}
-use Rattle.cjc_narrow_proof.specs.Types.declared.table.TypeTable.{TypeTable}
-use Rattle.cjc_narrow_proof.specs.Subset.Ints.{any_works_on_int}
-use Rattle.cjc_narrow_proof.specs.Narrow.Written.Rows.{has_rows, rows_by}
+use Rattle.cjc_methods.specs.Narrow.Rows.Selected.{near_fields, selected_code}
+use Rattle.cjc_narrow_proof.specs.NCode.declared.narrow.NInsn.{NInsn}
+use Rattle.cjc_narrow_proof.specs.NCode.declared.narrow.NMethod.{NMethod}
+use Rattle.cjc_methods.specs.LowerPool.Pool.{IsPool, PoolView, most_entries}
+use Rattle.cjc_methods.specs.Tokens.Rules.{token_breaks}
+use Rattle.cjc_methods.specs.Tokens.Tokens.{assigned}
+use Rattle.cjc_methods.specs.Types.declared.table.TypeTable.{TypeTable}
+use Rattle.cjc_methods.specs.Subset.Ints.{any_works_on_int}
+use Rattle.cjc_methods.specs.Narrow.Written.Rows.{has_rows, rows_by}
 use Rattle.cjc_shape.specs.Judged.Tested.{IsOne, states}
 
 -- The narrow code of one of the package's methods, of the instructions that its table reaches, where these instance

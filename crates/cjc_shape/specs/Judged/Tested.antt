@@ -1,20 +1,20 @@
 -- Packages that were tested for the rules that selection rests on, and their methods with their types.
 use Rattle.std.specs.Prelude.{◌≡◌, ℕ, ◌≤◌, ◌<◌, ◌^◌, List, length, slice_get, Some, true, Option}
 use Rattle.std.specs.List.{AllByRecursion, list_any}
-use Rattle.cjc_methods.specs.ClassFile.Code.{CodeTree}
-use Rattle.cjc_methods.specs.ClassFile.declared.tree.ClassTree.{ClassTree}
-use Rattle.cjc_methods.specs.ClassFile.declared.tree.MethodTree.{MethodTree}
-use Rattle.cjc_narrow_proof.specs.Bytecode.declared.method_code.MethodCode.{MethodCode}
+use Rattle.cjc_exported.specs.ClassFile.Code.{CodeTree}
+use Rattle.cjc_exported.specs.ClassFile.declared.tree.ClassTree.{ClassTree}
+use Rattle.cjc_exported.specs.ClassFile.declared.tree.MethodTree.{MethodTree}
+use Rattle.cjc_methods.specs.Bytecode.declared.method_code.MethodCode.{MethodCode}
 use Rattle.cjc_judge.specs.declared.groups.Group.{Group}
 use Rattle.cjc_judge.specs.declared.groups.Group.TheVariants as groups
 use Rattle.cjc_judge.specs.declared.judged.Judged.{Judged}
 use Rattle.cjc_judge.specs.Judged.{IsJudged}
 use Rattle.cjc_judge.specs.Types.{asks_types}
-use Rattle.cjc_judge.specs.List.Listed.{ListTree}
-use Rattle.cjc_narrow_proof.specs.Types.declared.state.State.{State}
-use Rattle.cjc_narrow_proof.specs.Types.declared.table.TypeTable.{TypeTable}
-use Rattle.cjc_narrow_proof.specs.Types.Flow.{body_of}
-use Rattle.cjc_narrow_proof.specs.Types.Tables.{IsMethodOf, rows_of}
+use Rattle.cjc_methods.specs.List.Listed.{ListTree}
+use Rattle.cjc_methods.specs.Types.declared.state.State.{State}
+use Rattle.cjc_methods.specs.Types.declared.table.TypeTable.{TypeTable}
+use Rattle.cjc_methods.specs.Types.Flow.{body_of}
+use Rattle.cjc_methods.specs.Types.Tables.{IsMethodOf, rows_of}
 
 -- each file is of 512 MiB at most
 abbrev pub AreFiles : List (List ℕ) → Type 0

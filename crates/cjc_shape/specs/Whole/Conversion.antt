@@ -2,30 +2,30 @@
 -- first.
 use Rattle.std.specs.Prelude.{◌≡◌, ℕ, List, [], map, slice_get, Option, Some}
 use Rattle.std.specs.List.{Contains}
-use Rattle.cjc_methods.specs.Bytes.Breaks.{Break, Among}
-use Rattle.cjc_methods.specs.Bytes.declared.fault.MemberId.{MemberId}
-use Rattle.cjc_methods.specs.Bytes.declared.fault.Refusal.{Refusal}
-use Rattle.cjc_narrow_proof.specs.JvmSemantics.Linked.{Method}
-use Rattle.cjc_narrow_proof.specs.JvmSemantics.OnePackage.{method_by}
-use Rattle.cjc_methods.specs.ClassFile.Code.{CodeTree}
-use Rattle.cjc_methods.specs.ClassFile.declared.tree.ClassTree.{ClassTree}
-use Rattle.cjc_methods.specs.ClassFile.declared.tree.MethodTree.{MethodTree}
-use Rattle.cjc_narrow_proof.specs.Bytecode.PackageCodes.{all_codes}
-use Rattle.cjc_narrow_proof.specs.Bytecode.declared.method_code.MethodCode.{MethodCode}
-use Rattle.cjc_methods.specs.Components.Limits.{code_breaks, else_of, of_methods, size_breaks, word_breaks}
-use Rattle.cjc_methods.specs.Components.Package.{LaidMethod, Package, pool}
-use Rattle.cjc_methods.specs.Components.Written.{IsPackage, code_at, is_abstract_at}
+use Rattle.cjc_exported.specs.Bytes.Breaks.{Break, Among}
+use Rattle.cjc_exported.specs.Bytes.declared.fault.MemberId.{MemberId}
+use Rattle.cjc_exported.specs.Bytes.declared.fault.Refusal.{Refusal}
+use Rattle.cjc_methods.specs.JvmSemantics.Linked.{Method}
+use Rattle.cjc_methods.specs.JvmSemantics.OnePackage.{method_by}
+use Rattle.cjc_exported.specs.ClassFile.Code.{CodeTree}
+use Rattle.cjc_exported.specs.ClassFile.declared.tree.ClassTree.{ClassTree}
+use Rattle.cjc_exported.specs.ClassFile.declared.tree.MethodTree.{MethodTree}
+use Rattle.cjc_methods.specs.Bytecode.PackageCodes.{all_codes}
+use Rattle.cjc_methods.specs.Bytecode.declared.method_code.MethodCode.{MethodCode}
+use Rattle.cjc_exported.specs.Components.Limits.{code_breaks, else_of, of_methods, size_breaks, word_breaks}
+use Rattle.cjc_exported.specs.Components.Package.{LaidMethod, Package, pool}
+use Rattle.cjc_exported.specs.Components.Written.{IsPackage, code_at, is_abstract_at}
 use Rattle.cjc_judge.specs.Rules.{AreWorld, Breach, IsFirstRefused, OnLevels, files_spelt}
 use Rattle.cjc_judge.specs.Spelt.{FileTree}
-use Rattle.cjc_judge.specs.List.Listed.{ListTree}
-use Rattle.cjc_narrow_proof.specs.Narrow.Rows.Selected.{near_fields}
+use Rattle.cjc_methods.specs.List.Listed.{ListTree}
+use Rattle.cjc_methods.specs.Narrow.Rows.Selected.{near_fields}
 use Rattle.cjc_shape.specs.Prepared.{tested}
-use Rattle.cjc_narrow_proof.specs.Types.declared.state.State.{State}
-use Rattle.cjc_narrow_proof.specs.Types.Flow.{body_of}
-use Rattle.cjc_narrow_proof.specs.Types.Tables.{IsLeastTable, IsMethodOf}
-use Rattle.cjc_methods.specs.World.Classes.{all_classes}
-use Rattle.cjc_methods.specs.World.Files.{Files}
-use Rattle.cjc_methods.specs.World.Order.{method_order}
+use Rattle.cjc_methods.specs.Types.declared.state.State.{State}
+use Rattle.cjc_methods.specs.Types.Flow.{body_of}
+use Rattle.cjc_methods.specs.Types.Tables.{IsLeastTable, IsMethodOf}
+use Rattle.cjc_exported.specs.World.Classes.{all_classes}
+use Rattle.cjc_exported.specs.World.Files.{Files}
+use Rattle.cjc_exported.specs.World.Order.{method_order}
 
 -- ---- the package
 

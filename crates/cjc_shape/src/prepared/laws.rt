@@ -4,11 +4,11 @@ ghost use Rattle.std.specs.Prelude.{◌≡◌, ℕ, List, [], false};
 ghost use Rattle.cjc_judge.specs.declared.judged.Judged.{Judged};
 ghost use Rattle.cjc_judge.specs.Rules.{has_applets, settings_of};
 ghost use Rattle.cjc_shape.specs.Judged.Tested.{IsTested};
-ghost use Rattle.cjc_judge.specs.List.Listed.{ListTree};
-ghost use Rattle.cjc_narrow_proof.specs.Subset.Ints.{any_works_on_int};
+ghost use Rattle.cjc_methods.specs.List.Listed.{ListTree};
+ghost use Rattle.cjc_methods.specs.Subset.Ints.{any_works_on_int};
 ghost use Rattle.cjc_methods.specs.Ready.{AreReady};
 ghost use Rattle.cjc_narrow_proof.specs.Laws.Unbroken.{IsUnbroken};
-ghost use Rattle.cjc_exported.specs.Tokens.Rules.{FewCells, FewExported, token_breaks};
+ghost use Rattle.cjc_methods.specs.Tokens.Rules.{FewCells, FewExported, token_breaks};
 ghost use Rattle.cjc_shape.specs.Prepared.{IsSound};
 
 /// A package that breaks no rule was tested for limits and types, and breaks nothing of names and limits: so

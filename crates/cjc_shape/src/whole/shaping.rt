@@ -5,9 +5,9 @@ ghost use Rattle.std.specs.Prelude.{◌≡◌, [], All, IfOk, IfErr, OnOk};
 ghost use Rattle.cjc_methods.specs.Ready.{IsOwn};
 ghost use Rattle.cjc_shape.specs.Prepared.{BreaksNothing};
 ghost use Rattle.cjc_shape.specs.Whole.Working.Shaped.{IsShaped, Stopped, has_int_code, int_breaks};
-ghost use Rattle.cjc_methods.specs.Bytes.Breaks.{IsFirstRefusal};
-ghost use Rattle.cjc_methods.specs.World.Classes.{all_classes};
-ghost use Rattle.cjc_methods.specs.World.Order.{method_order};
+ghost use Rattle.cjc_exported.specs.Bytes.Breaks.{IsFirstRefusal};
+ghost use Rattle.cjc_exported.specs.World.Classes.{all_classes};
+ghost use Rattle.cjc_exported.specs.World.Order.{method_order};
 
 use cjc_exported::export_file::export_of;
 use cjc_judge::{Judged, image_of, tokens_of};

@@ -3,13 +3,13 @@ use Rattle.std.proofs.Common.{◌≡◌, ℕ, sym, ap, subst, ◌∙◌, Bool, t
 use Rattle.cjc_bytes.specs.AccessFlags.{is_static}
 use Rattle.cjc_bytes.specs.declared.fault.MemberId.{MemberId}
 use Rattle.cjc_bytes.specs.declared.settings.Settings.{Settings}
-use Rattle.cjc_narrow_proof.specs.JvmSemantics.Linked.{Callee, Method}
-use Rattle.cjc_narrow_proof.specs.JvmSemantics.OnePackage.{is_initialiser, method_by}
-use Rattle.cjc_check_proof.specs.LowerWorldProof.Calls.Targets.{IsOwnCode, IsTarget, abroad, inside}
+use Rattle.cjc_classes.specs.JvmSemantics.Linked.{Callee, Method}
+use Rattle.cjc_classes.specs.JvmSemantics.OnePackage.{is_initialiser, method_by}
+use Rattle.cjc_check_proof.specs.WorldProof.Calls.Targets.{IsOwnCode, IsTarget, abroad, inside}
 use Rattle.cjc_check_proof.proofs.WorldProofTypes.{below_type}
-use Rattle.cjc_tokens.specs.ClassFile.declared.tree.ClassTree.{ClassTree}
-use Rattle.cjc_tokens.specs.ClassFile.declared.tree.MethodTree.{MethodTree}
-use Rattle.cjc_narrow_proof.specs.Bytecode.declared.method_code.MethodCode.{MethodCode}
+use Rattle.cjc_world.specs.ClassFile.declared.tree.ClassTree.{ClassTree}
+use Rattle.cjc_world.specs.ClassFile.declared.tree.MethodTree.{MethodTree}
+use Rattle.cjc_components.specs.Bytecode.declared.method_code.MethodCode.{MethodCode}
 use Rattle.cjc_shape_proof.specs.Whole.{AreTabled}
 use Rattle.cjc_narrow_proof.specs.Laws.Unbroken.{AreSpelt, IsUnbroken}
 use Rattle.cjc_narrow_proof.proofs.LawsLaws.Own.{class_by_name, flags_by_name}

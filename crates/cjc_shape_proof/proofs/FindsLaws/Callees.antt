@@ -9,12 +9,12 @@ use Rattle.cjc_bytes.specs.Spots.{desc_of, part_of}
 use Rattle.cjc_bytes.specs.declared.descriptor.Kind.{Kind}
 use Rattle.cjc_bytes.proofs.Quantified.{last_false}
 use Rattle.cjc_bytes.specs.declared.descriptor.Kind.TheVariants as kinds
-use Rattle.cjc_components.specs.Script.Sorts.{OfClass, OfReferences, Reference, Shape, array_by, array_of}
-use Rattle.cjc_components.specs.Script.Sorts.{reference_to}
-use Rattle.cjc_components.specs.Script.Sorts.{result_by}
-use Rattle.cjc_components.specs.Script.Sorts.{shape_named, sort_by, sort_of}
+use Rattle.cjc_narrow_proof.specs.Script.Sorts.{OfClass, OfReferences, Reference, Shape, array_by, array_of}
+use Rattle.cjc_narrow_proof.specs.Script.Sorts.{reference_to}
+use Rattle.cjc_narrow_proof.specs.Script.Sorts.{result_by}
+use Rattle.cjc_narrow_proof.specs.Script.Sorts.{shape_named, sort_by, sort_of}
 use Rattle.cjc_narrow_proof.specs.Tables.Calls.{types_of}
-use Rattle.cjc_narrow_proof.specs.Types.Types.{parts}
+use Rattle.cjc_classes.specs.Types.Types.{parts}
 use Rattle.cjc_narrow_proof.proofs.LawsLaws.Handlers.{class_there}
 use Rattle.cjc_narrow_proof.specs.Runs.Types.{IsThere, of_class, of_numbers, of_references}
 use Rattle.cjc_world.specs.Classes.{Class}

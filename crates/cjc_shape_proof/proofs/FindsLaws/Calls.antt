@@ -11,18 +11,18 @@ use Rattle.cjc_bytes.specs.Spots.{desc_of}
 use Rattle.cjc_bytes.specs.declared.fault.MemberId.{MemberId}
 use Rattle.cjc_bytes.specs.declared.settings.Settings.{Settings}
 use Rattle.cjc_bytes.proofs.Bools.{true_or_false, true_not_false, or_right}
-use Rattle.cjc_narrow_proof.specs.JvmSemantics.OnePackage.{ResolvedMember, callee_at, interface_callee, is_constructor}
-use Rattle.cjc_narrow_proof.specs.JvmSemantics.OnePackage.{is_initialiser, method_hit, first_super, select_in}
-use Rattle.cjc_narrow_proof.specs.JvmSemantics.OnePackage.{selected_from}
-use Rattle.cjc_check_proof.specs.LowerWorldProof.Calls.Solid.{HasCode, IsSolid}
-use Rattle.cjc_check_proof.specs.LowerWorldProof.Calls.Targets.{IsReceiver}
+use Rattle.cjc_classes.specs.JvmSemantics.OnePackage.{ResolvedMember, callee_at, interface_callee, is_constructor}
+use Rattle.cjc_classes.specs.JvmSemantics.OnePackage.{is_initialiser, method_hit, first_super, select_in}
+use Rattle.cjc_classes.specs.JvmSemantics.OnePackage.{selected_from}
+use Rattle.cjc_check_proof.specs.WorldProof.Calls.Solid.{HasCode, IsSolid}
+use Rattle.cjc_check_proof.specs.WorldProof.Calls.Targets.{IsReceiver}
 use Rattle.cjc_check_proof.proofs.WorldProofOwn.{IsAt, hit_is, own_at}
 use Rattle.cjc_check_proof.proofs.WorldProofSelects.{is_selected, on_interface, on_object}
 use Rattle.cjc_check_proof.proofs.WorldProofSpecials.{above_callee, itself_callee}
 use Rattle.cjc_check_proof.proofs.WorldProofTypes.{below_type, type_below, receiver_class as receiver_plain}
-use Rattle.cjc_tokens.specs.ClassFile.declared.tree.ClassTree.{ClassTree}
-use Rattle.cjc_narrow_proof.specs.Bytecode.declared.insn.JOp.TheVariants as jop
-use Rattle.cjc_narrow_proof.specs.Bytecode.declared.method_code.MethodCode.{MethodCode}
+use Rattle.cjc_world.specs.ClassFile.declared.tree.ClassTree.{ClassTree}
+use Rattle.cjc_components.specs.Bytecode.declared.insn.JOp.TheVariants as jop
+use Rattle.cjc_components.specs.Bytecode.declared.method_code.MethodCode.{MethodCode}
 use Rattle.cjc_shape_proof.specs.Whole.{Accepts, AreTabled}
 use Rattle.cjc_shape_proof.proofs.FindsLaws.Begun.{chosen, reached}
 use Rattle.cjc_shape_proof.proofs.FindsLaws.Callees.{result_there}
@@ -38,18 +38,19 @@ use Rattle.cjc_narrow_proof.proofs.LawsLaws.OwnTypes.{called_word_desc}
 use Rattle.cjc_narrow_proof.specs.Runs.Calls.{IsCallee, IsReceiverOn, IsStaticOn, above_holder, by_interface, itself}
 use Rattle.cjc_narrow_proof.specs.Runs.Calls.{on_class}
 use Rattle.cjc_narrow_proof.specs.Runs.Tables.{Tables, look_ups}
-use Rattle.cjc_components.specs.NCode.ByLabel.{Named}
-use Rattle.cjc_components.specs.Script.Sorts.{Shape, shape_name}
+use Rattle.cjc_narrow_proof.specs.NCode.ByLabel.{Named}
+use Rattle.cjc_narrow_proof.specs.Script.Sorts.{Shape, shape_name}
 use Rattle.cjc_narrow_proof.specs.Selection.Relation.{IsMadeOf}
-use Rattle.cjc_check_proof.specs.LowerWorldProof.Files.{AreReadFiles}
-use Rattle.cjc_vtable.specs.Subset.Names.{is_bodiless, is_hidden, is_name_missing, is_unfit_call, is_unfit_class}
-use Rattle.cjc_vtable.specs.Subset.Names.{is_unfit_method, is_unfit_super, is_unfit_virtual, names_missing, names_unfit}
-use Rattle.cjc_vtable.specs.Subset.Members as subset
+use Rattle.cjc_check_proof.specs.WorldProof.Files.{AreReadFiles}
+use Rattle.cjc_classes.specs.Subset.Names.{is_bodiless, is_hidden, is_name_missing, is_unfit_call, is_unfit_class}
+use Rattle.cjc_classes.specs.Subset.Names.{is_unfit_method, is_unfit_super, is_unfit_virtual, names_missing}
+use Rattle.cjc_classes.specs.Subset.Names.{names_unfit}
+use Rattle.cjc_classes.specs.Subset.Members as subset
 use Rattle.cjc_narrow_proof.specs.Tables.Kinds.{is_one_of}
-use Rattle.cjc_narrow_proof.specs.Types.declared.cell.Cell.{Cell}
-use Rattle.cjc_narrow_proof.specs.Types.Flow.{Body}
-use Rattle.cjc_narrow_proof.specs.Types.Rules.{is_found_private, is_private_in, names_private, no_member}
-use Rattle.cjc_narrow_proof.specs.Types.Rules.{receiver_class}
+use Rattle.cjc_classes.specs.Types.declared.cell.Cell.{Cell}
+use Rattle.cjc_classes.specs.Types.Flow.{Body}
+use Rattle.cjc_classes.specs.Types.Rules.{is_found_private, is_private_in, names_private, no_member}
+use Rattle.cjc_classes.specs.Types.Rules.{receiver_class}
 use Rattle.cjc_world.specs.Upwards.{Below}
 use Rattle.cjc_world.proofs.UpwardLaws.Lines.{below_abroad, below_on, method_found_above, own_found}
 use Rattle.cjc_world.specs.declared.found.Found.{Found}

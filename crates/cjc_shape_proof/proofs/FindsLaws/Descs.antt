@@ -4,17 +4,17 @@ use Rattle.std.specs.Prelude.{Option, Some, None, option_and_then, slice_get, if
 use Rattle.cjc_bytes.specs.Descriptor.{Parts}
 use Rattle.cjc_bytes.specs.Spots.{desc_of}
 use Rattle.cjc_check_proof.proofs.WorldProofOwn.{mapped_at}
-use Rattle.cjc_tokens.specs.ClassFile.Fits as fits
+use Rattle.cjc_world.specs.ClassFile.Fits as fits
 use Rattle.cjc_world.proofs.ClassFileFitting.{spelt_fits}
-use Rattle.cjc_tokens.specs.ClassFile.declared.tree.ClassTree.{ClassTree}
-use Rattle.cjc_tokens.specs.ExportFile.Members.{as_desc, same_bool}
-use Rattle.cjc_tokens.specs.ExportFile.Writable.{ClassFits, MethodStands}
+use Rattle.cjc_world.specs.ClassFile.declared.tree.ClassTree.{ClassTree}
+use Rattle.cjc_world.specs.ExportFile.Members.{as_desc, same_bool}
+use Rattle.cjc_world.specs.ExportFile.Writable.{ClassFits, MethodStands}
 use Rattle.cjc_bytes.specs.AccessFlags.{is_interface}
 use Rattle.cjc_bytes.proofs.Gets.{all_at}
-use Rattle.cjc_narrow_proof.specs.Bytecode.ReadLaws.Members.{IsDescOf, IsReadClass}
+use Rattle.cjc_components.specs.Bytecode.ReadLaws.Members.{IsDescOf, IsReadClass}
 use Rattle.cjc_narrow_proof.proofs.BytecodeMembers.{read_class}
-use Rattle.cjc_check_proof.specs.LowerWorldProof.Files.{AreReadFiles}
-use Rattle.cjc_vtable.specs.Subset.Members.{imports}
+use Rattle.cjc_check_proof.specs.WorldProof.Files.{AreReadFiles}
+use Rattle.cjc_classes.specs.Subset.Members.{imports}
 use Rattle.cjc_vtable.proofs.Filed.{IsFiled, filed, get-has, has-get, in_class_file}
 use Rattle.cjc_vtable.proofs.Filed.{in_export_file, of-imports}
 use Rattle.cjc_vtable.proofs.Read.{each-after}

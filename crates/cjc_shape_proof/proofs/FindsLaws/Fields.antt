@@ -15,22 +15,22 @@ use Rattle.cjc_bytes.proofs.DescriptorTypes.{desc_spelt}
 use Rattle.cjc_bytes.proofs.Gets.{all_at}
 use Rattle.cjc_bytes.proofs.Lists.{name_is as bytes-refl}
 use Rattle.cjc_bytes.proofs.Bools.{true_or_false, true_not_false, or_left, or_right, bool_middle}
-use Rattle.cjc_narrow_proof.specs.JvmSemantics.Linked.{Instance, Method, Static}
-use Rattle.cjc_narrow_proof.specs.JvmSemantics.OnePackage.{constant_at, constant_in, exported_constant, field_by}
-use Rattle.cjc_narrow_proof.specs.JvmSemantics.OnePackage.{field_hit}
-use Rattle.cjc_narrow_proof.specs.JvmSemantics.OnePackage.{field_named, member_of, object_fields, of_class}
-use Rattle.cjc_check_proof.specs.LowerWorldProof.Calls.Solid.{IsSolid}
-use Rattle.cjc_check_proof.specs.LowerWorldProof.Calls.Targets.{IsReceiver}
+use Rattle.cjc_classes.specs.JvmSemantics.Linked.{Instance, Method, Static}
+use Rattle.cjc_classes.specs.JvmSemantics.OnePackage.{constant_at, constant_in, exported_constant, field_by}
+use Rattle.cjc_classes.specs.JvmSemantics.OnePackage.{field_hit}
+use Rattle.cjc_classes.specs.JvmSemantics.OnePackage.{field_named, member_of, object_fields, of_class}
+use Rattle.cjc_check_proof.specs.WorldProof.Calls.Solid.{IsSolid}
+use Rattle.cjc_check_proof.specs.WorldProof.Calls.Targets.{IsReceiver}
 use Rattle.cjc_check_proof.proofs.WorldProofFields.{object_has}
 use Rattle.cjc_check_proof.proofs.WorldProofOwn.{IsFieldAt, field_at, field_hit_is, mapped_at}
 use Rattle.cjc_check_proof.proofs.WorldProofTypes.{type_below, receiver_class}
 use Rattle.cjc_world.proofs.ClassFileFitting.{spelt_fits}
-use Rattle.cjc_tokens.specs.ClassFile.Fits as fits
-use Rattle.cjc_tokens.specs.ClassFile.declared.tree.ClassTree.{ClassTree}
-use Rattle.cjc_tokens.specs.ClassFile.declared.tree.FieldTree.{FieldTree}
-use Rattle.cjc_narrow_proof.specs.Bytecode.declared.insn.JOp.TheVariants as jop
-use Rattle.cjc_narrow_proof.specs.Bytecode.declared.method_code.MethodCode.{MethodCode}
-use Rattle.cjc_tokens.specs.ExportFile.Members.{is_constant_type, may_be_constant}
+use Rattle.cjc_world.specs.ClassFile.Fits as fits
+use Rattle.cjc_world.specs.ClassFile.declared.tree.ClassTree.{ClassTree}
+use Rattle.cjc_world.specs.ClassFile.declared.tree.FieldTree.{FieldTree}
+use Rattle.cjc_components.specs.Bytecode.declared.insn.JOp.TheVariants as jop
+use Rattle.cjc_components.specs.Bytecode.declared.method_code.MethodCode.{MethodCode}
+use Rattle.cjc_world.specs.ExportFile.Members.{is_constant_type, may_be_constant}
 use Rattle.cjc_shape_proof.proofs.FindsLaws.Descs.{read_of}
 use Rattle.cjc_shape_proof.proofs.FindsLaws.Receivers.{made_class, named_of, plain_class, receiver_of}
 use Rattle.cjc_narrow_proof.specs.Laws.Unbroken.{IsInsnOf, IsUnbroken}
@@ -38,28 +38,28 @@ use Rattle.cjc_narrow_proof.proofs.LawsLaws.Instructions.{field_there, op_fit, o
 use Rattle.cjc_narrow_proof.proofs.LawsLaws.WordTypes.{type_values, type_word}
 use Rattle.cjc_narrow_proof.specs.Runs.Names.{IsFieldOf, IsWordField}
 use Rattle.cjc_narrow_proof.specs.Runs.Tables.{Tables, look_ups}
-use Rattle.cjc_components.specs.Narrow.Rows.Package.{named}
-use Rattle.cjc_components.specs.NCode.ByLabel.{Named}
-use Rattle.cjc_components.specs.NCode.PoolOrder.{same_member}
-use Rattle.cjc_components.specs.Script.Sorts.{Booleans, Bytes, Ints, Shorts, OfClass, OfNumbers, OfReferences, Shape}
-use Rattle.cjc_components.specs.Script.Sorts.{shape_name}
-use Rattle.cjc_components.specs.Script.Sorts.{field_sort, sort_of, sort_or_none}
+use Rattle.cjc_classes.specs.Narrow.Rows.Package.{named}
+use Rattle.cjc_narrow_proof.specs.NCode.ByLabel.{Named}
+use Rattle.cjc_narrow_proof.specs.NCode.PoolOrder.{same_member}
+use Rattle.cjc_narrow_proof.specs.Script.Sorts.{Booleans, Bytes, Ints, Shorts, OfClass, OfNumbers, OfReferences, Shape}
+use Rattle.cjc_narrow_proof.specs.Script.Sorts.{shape_name}
+use Rattle.cjc_narrow_proof.specs.Script.Sorts.{field_sort, sort_of, sort_or_none}
 use Rattle.cjc_narrow_proof.specs.Selection.Objects.{has_values}
 use Rattle.cjc_narrow_proof.proofs.SelectedLaws.IntFree.{op_free}
 use Rattle.cjc_narrow_proof.specs.Selection.Relation.{HasObjects, IsMadeOf, bare, made}
 use Rattle.cjc_narrow_proof.specs.Selection.Rows.{HasField, is_word_sort, lists}
-use Rattle.cjc_check_proof.specs.LowerWorldProof.Files.{AreReadFiles}
-use Rattle.cjc_vtable.specs.Subset.Checks.{is_imported_variable, names_variable}
-use Rattle.cjc_vtable.specs.Subset.Members.{imported_field, is_imported_constant}
-use Rattle.cjc_vtable.specs.Subset.Members as subset
+use Rattle.cjc_check_proof.specs.WorldProof.Files.{AreReadFiles}
+use Rattle.cjc_classes.specs.Subset.Checks.{is_imported_variable, names_variable}
+use Rattle.cjc_classes.specs.Subset.Members.{imported_field, is_imported_constant}
+use Rattle.cjc_classes.specs.Subset.Members as subset
 use Rattle.cjc_vtable.proofs.SubsetFits.{field_fits}
-use Rattle.cjc_vtable.specs.Subset.Names.{is_constant_found, is_hidden, is_other_kind, is_unfit_field, names_unfit}
-use Rattle.cjc_vtable.specs.Subset.Types.{is_any_unsupported, is_any_int, is_unsupported_desc, is_unsupported_name}
-use Rattle.cjc_vtable.specs.Subset.Types.{is_unsupported_part, is_int_desc, is_int_part, names_unsupported}
-use Rattle.cjc_vtable.specs.Subset.Ints.{works_on_int}
-use Rattle.cjc_narrow_proof.specs.Types.declared.cell.Cell.{Cell}
-use Rattle.cjc_narrow_proof.specs.Types.declared.cell.Cell.TheVariants.{Refs}
-use Rattle.cjc_narrow_proof.specs.Types.Types.{no_parts, parts, parts_or_none}
+use Rattle.cjc_classes.specs.Subset.Names.{is_constant_found, is_hidden, is_other_kind, is_unfit_field, names_unfit}
+use Rattle.cjc_classes.specs.Subset.Types.{is_any_unsupported, is_any_int, is_unsupported_desc, is_unsupported_name}
+use Rattle.cjc_classes.specs.Subset.Types.{is_unsupported_part, is_int_desc, is_int_part, names_unsupported}
+use Rattle.cjc_classes.specs.Subset.Ints.{works_on_int}
+use Rattle.cjc_classes.specs.Types.declared.cell.Cell.{Cell}
+use Rattle.cjc_classes.specs.Types.declared.cell.Cell.TheVariants.{Refs}
+use Rattle.cjc_classes.specs.Types.Types.{no_parts, parts, parts_or_none}
 use Rattle.cjc_world.specs.Upwards.{Below, Has}
 use Rattle.cjc_world.specs.Upwards as upward
 use Rattle.cjc_world.proofs.UpwardLaws.Lines.{below_abroad, below_on, field_found_above, on_line}

@@ -4,16 +4,16 @@ use Rattle.std.specs.Prelude.{not, ◌&&◌, ◌||◌, Option, Some, None, optio
 use Rattle.std.specs.List.{list_all}
 use Rattle.cjc_bytes.specs.AccessFlags.{is_abstract, is_interface}
 use Rattle.cjc_bytes.specs.declared.fault.MemberId.{MemberId}
-use Rattle.cjc_narrow_proof.specs.JvmSemantics.OnePackage.{is_made, is_plain_import, made_of, object_fields}
-use Rattle.cjc_check_proof.specs.LowerWorldProof.Calls.Solid.{IsSolid}
-use Rattle.cjc_check_proof.specs.LowerWorldProof.Calls.Targets.{IsReceiver}
+use Rattle.cjc_classes.specs.JvmSemantics.OnePackage.{is_made, is_plain_import, made_of, object_fields}
+use Rattle.cjc_check_proof.specs.WorldProof.Calls.Solid.{IsSolid}
+use Rattle.cjc_check_proof.specs.WorldProof.Calls.Targets.{IsReceiver}
 use Rattle.cjc_check_proof.proofs.WorldProofTypes.{receiver_class}
-use Rattle.cjc_components.specs.Narrow.Rows.Package.{named, plain_import}
+use Rattle.cjc_classes.specs.Narrow.Rows.Package.{named, plain_import}
 use Rattle.cjc_narrow_proof.specs.Runs.Tables.{Tables, look_ups}
-use Rattle.cjc_components.specs.NCode.ByLabel.{Named}
-use Rattle.cjc_components.specs.Script.Sorts.{Booleans, Bytes, Ints, OfClass, OfNumbers, OfReferences, Shape, Shorts}
-use Rattle.cjc_components.specs.Script.Sorts.{shape_name}
-use Rattle.cjc_components.specs.Script.Sorts.{shape_named}
+use Rattle.cjc_narrow_proof.specs.NCode.ByLabel.{Named}
+use Rattle.cjc_narrow_proof.specs.Script.Sorts.{Booleans, Bytes, Ints, OfClass, OfNumbers, OfReferences, Shape, Shorts}
+use Rattle.cjc_narrow_proof.specs.Script.Sorts.{shape_name}
+use Rattle.cjc_narrow_proof.specs.Script.Sorts.{shape_named}
 use Rattle.cjc_narrow_proof.specs.Selection.Relation.{HasObjects, IsMadeOf, bare, made}
 use Rattle.cjc_narrow_proof.specs.Selection.Replies.{is_of_some}
 use Rattle.cjc_narrow_proof.specs.Tables.Kinds.{is_named, is_one_of}

@@ -10,22 +10,22 @@ use Rattle.cjc_bytes.proofs.Gets.{all_at, any_at, any_off}
 use Rattle.cjc_bytes.proofs.Lists.{name_is, bytes_true}
 use Rattle.cjc_bytes.proofs.Options.{then_some, not_far, where_true}
 use Rattle.cjc_bytes.proofs.Bools.{both_front, both_back, true_or_false, true_not_false}
-use Rattle.cjc_narrow_proof.specs.JvmSemantics.Linked.{Method}
-use Rattle.cjc_narrow_proof.specs.JvmSemantics.OnePackage.{entry_in, entry_named, is_constructor, is_initialiser}
-use Rattle.cjc_narrow_proof.specs.JvmSemantics.OnePackage.{is_sendable}
-use Rattle.cjc_narrow_proof.specs.JvmSemantics.OnePackage.{method_at, method_hit, select_in, sent_by, sent_named}
-use Rattle.cjc_check_proof.specs.LowerWorldProof.Calls.Solid.{IsSolid}
-use Rattle.cjc_check_proof.specs.LowerWorldProof.Calls.Targets.{IsOwnCode, IsReceiver, IsSentTo}
+use Rattle.cjc_classes.specs.JvmSemantics.Linked.{Method}
+use Rattle.cjc_classes.specs.JvmSemantics.OnePackage.{entry_in, entry_named, is_constructor, is_initialiser}
+use Rattle.cjc_classes.specs.JvmSemantics.OnePackage.{is_sendable}
+use Rattle.cjc_classes.specs.JvmSemantics.OnePackage.{method_at, method_hit, select_in, sent_by, sent_named}
+use Rattle.cjc_check_proof.specs.WorldProof.Calls.Solid.{IsSolid}
+use Rattle.cjc_check_proof.specs.WorldProof.Calls.Targets.{IsOwnCode, IsReceiver, IsSentTo}
 use Rattle.cjc_check_proof.proofs.WorldProofOwn.{own_at}
 use Rattle.cjc_check_proof.proofs.WorldProofScripts.{called_method, sent_method}
 use Rattle.cjc_check_proof.proofs.WorldProofSelects.{own_tree}
 use Rattle.cjc_check_proof.proofs.WorldProofTypes.{below_type}
 use Rattle.cjc_world.proofs.ClassFileFitting.{spelt_fits}
-use Rattle.cjc_tokens.specs.ClassFile.Fits as fits
-use Rattle.cjc_tokens.specs.ClassFile.declared.tree.ClassTree.{ClassTree}
-use Rattle.cjc_tokens.specs.ClassFile.declared.tree.MethodTree.{MethodTree}
-use Rattle.cjc_narrow_proof.specs.Bytecode.declared.method_code.MethodCode.{MethodCode}
-use Rattle.cjc_vtable.specs.Subset.Types.{is_int_desc}
+use Rattle.cjc_world.specs.ClassFile.Fits as fits
+use Rattle.cjc_world.specs.ClassFile.declared.tree.ClassTree.{ClassTree}
+use Rattle.cjc_world.specs.ClassFile.declared.tree.MethodTree.{MethodTree}
+use Rattle.cjc_components.specs.Bytecode.declared.method_code.MethodCode.{MethodCode}
+use Rattle.cjc_classes.specs.Subset.Types.{is_int_desc}
 use Rattle.cjc_shape_proof.specs.Whole.{AreTabled}
 use Rattle.cjc_shape_proof.proofs.FindsLaws.Begun.{begun, declarer}
 use Rattle.cjc_shape_proof.proofs.FindsLaws.Callees.{params_there}
@@ -39,10 +39,10 @@ use Rattle.cjc_narrow_proof.proofs.SelectedLaws.IntFree.{code_free, own_desc}
 use Rattle.cjc_narrow_proof.specs.Runs.Converted.{IsFound, IsMember, a_member, no_method}
 use Rattle.cjc_narrow_proof.specs.Runs.Tables.{Tables, look_ups}
 use Rattle.cjc_narrow_proof.specs.Runs.Types.{IsThere}
-use Rattle.cjc_components.specs.NCode.ByLabel.{Named}
-use Rattle.cjc_components.specs.Script.Sorts.{Reference, Shape, shape_name}
+use Rattle.cjc_narrow_proof.specs.NCode.ByLabel.{Named}
+use Rattle.cjc_narrow_proof.specs.Script.Sorts.{Reference, Shape, shape_name}
 use Rattle.cjc_narrow_proof.specs.Selection.Relation.{IsMadeOf}
-use Rattle.cjc_check_proof.specs.LowerWorldProof.Files.{AreReadFiles}
+use Rattle.cjc_check_proof.specs.WorldProof.Files.{AreReadFiles}
 use Rattle.cjc_narrow_proof.specs.Tables.Calls.{IsWordDesc, types_of}
 use Rattle.cjc_world.proofs.UpwardLaws.Lines.{first_has, line_named, of_line}
 use Rattle.cjc_world.specs.declared.found.Found.{Found}

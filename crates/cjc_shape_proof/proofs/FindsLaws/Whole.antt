@@ -3,13 +3,13 @@ use Rattle.std.proofs.Common.{◌≡◌, ℕ, refl, Bool, false, List, inl}
 use Rattle.std.specs.Prelude.{Some}
 use Rattle.cjc_bytes.specs.declared.fault.MemberId.{MemberId}
 use Rattle.cjc_bytes.specs.declared.settings.Settings.{Settings}
-use Rattle.cjc_narrow_proof.specs.JvmSemantics.Effects.{Fault, exception_class}
-use Rattle.cjc_narrow_proof.specs.JvmSemantics.Linked.{Method}
-use Rattle.cjc_check_proof.specs.LowerWorldProof.Calls.Solid.{IsSolid}
-use Rattle.cjc_check_proof.specs.LowerWorldProof.Calls.Targets.{IsReceiver}
-use Rattle.cjc_tokens.specs.ClassFile.declared.tree.ClassTree.{ClassTree}
-use Rattle.cjc_narrow_proof.specs.Bytecode.declared.insn.JOp.TheVariants as jop
-use Rattle.cjc_narrow_proof.specs.Bytecode.declared.method_code.MethodCode.{MethodCode}
+use Rattle.cjc_classes.specs.JvmSemantics.Effects.{Fault, exception_class}
+use Rattle.cjc_classes.specs.JvmSemantics.Linked.{Method}
+use Rattle.cjc_check_proof.specs.WorldProof.Calls.Solid.{IsSolid}
+use Rattle.cjc_check_proof.specs.WorldProof.Calls.Targets.{IsReceiver}
+use Rattle.cjc_world.specs.ClassFile.declared.tree.ClassTree.{ClassTree}
+use Rattle.cjc_components.specs.Bytecode.declared.insn.JOp.TheVariants as jop
+use Rattle.cjc_components.specs.Bytecode.declared.method_code.MethodCode.{MethodCode}
 use Rattle.cjc_shape_proof.specs.Whole.{Accepts, HoldsFor, IsWhole}
 use Rattle.cjc_shape_proof.proofs.FindsLaws.Calls.{interface_call, special_call, static_call, virtual_call}
 use Rattle.cjc_shape_proof.proofs.FindsLaws.Fields.{field_is}
@@ -22,14 +22,14 @@ use Rattle.cjc_narrow_proof.specs.Runs.Calls.{IsReceiverOn, IsStaticOn}
 use Rattle.cjc_narrow_proof.specs.Runs.Converted.{IsConverted, IsException, IsFirst, IsFound}
 use Rattle.cjc_narrow_proof.specs.Runs.Names.{AreNamed, IsFieldOf}
 use Rattle.cjc_narrow_proof.specs.Runs.Tables.{HasTables, Tables, look_ups}
-use Rattle.cjc_components.specs.Script.Sorts.{Shape, shape_name}
+use Rattle.cjc_narrow_proof.specs.Script.Sorts.{Shape, shape_name}
 use Rattle.cjc_narrow_proof.specs.Selection.Relation.{IsMadeOf}
-use Rattle.cjc_check_proof.specs.LowerWorldProof.Files.{IsClean}
+use Rattle.cjc_check_proof.specs.WorldProof.Files.{IsClean}
 use Rattle.cjc_check_proof.proofs.WorldProofExceptions.{exception_is}
 use Rattle.cjc_check_proof.proofs.WorldProofSolid.{solid as solid_of}
 use Rattle.cjc_narrow_proof.proofs.TablesLaws.Spelt.{class_read}
-use Rattle.cjc_narrow_proof.specs.Types.declared.cell.Cell.{Cell}
-use Rattle.cjc_narrow_proof.specs.Types.Flow.{Body}
+use Rattle.cjc_classes.specs.Types.declared.cell.Cell.{Cell}
+use Rattle.cjc_classes.specs.Types.Flow.{Body}
 use Rattle.cjc_world.specs.declared.image.StaticImage.{StaticImage}
 use Rattle.cjc_world.specs.Classes.{Class, all_classes, class_named, imported}
 use Rattle.cjc_world.specs.Files.{Files}

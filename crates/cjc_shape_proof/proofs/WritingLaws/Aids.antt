@@ -10,13 +10,13 @@ use Rattle.cjc_bytes.specs.declared.settings.AppletLine.{AppletLine}
 use Rattle.cjc_bytes.proofs.Options.{onward_ok, where_true}
 use Rattle.cjc_bytes.proofs.Quantified.{all_both}
 use Rattle.cjc_shape_proof.specs.Written.LaidOut.{AidsAreShort}
-use Rattle.cjc_shape.specs.Judge.Spelt.{IsRead}
+use Rattle.cjc_shape.specs.LowerJudge.Spelt.{IsRead}
 use Rattle.cjc_components.proofs.ListItems.{aid_is, onward, package_says}
 use Rattle.cjc_components.proofs.ListTexts.{lines_are}
 use Rattle.cjc_components.proofs.ListWholes.{said_ok}
-use Rattle.cjc_components.specs.List.Grammar.{aid_of, applet_of, has_room, is_name, item_of, package_of, with_item}
-use Rattle.cjc_components.specs.List.Grammar.{with_line}
-use Rattle.cjc_components.specs.List.Listed.{ListTree, of_lines, said, with_lines}
+use Rattle.cjc_classes.specs.List.Grammar.{aid_of, applet_of, has_room, is_name, item_of, package_of, with_item}
+use Rattle.cjc_classes.specs.List.Grammar.{with_line}
+use Rattle.cjc_classes.specs.List.Listed.{ListTree, of_lines, said, with_lines}
 
 abbrev IsShort : AppletLine → Type 0
 IsShort a = length a.aid ≤ 16

@@ -10,9 +10,9 @@ use Rattle.cjc_components.specs.ExportFile.{declares, is_listed, method_entry, m
 use Rattle.cjc_components.specs.ExportFile.{super_entry, supers_from}
 use Rattle.cjc_components.specs.Names.{member_token}
 use Rattle.cjc_components.specs.Package.{Package}
-use Rattle.cjc_tokens.specs.ExportFile.Members.{interface_token, interface_token_taken, not_special}
-use Rattle.cjc_tokens.specs.ExportFile.Writable.{EachAfter, MethodFits, MethodStands}
-use Rattle.cjc_tokens.specs.ExportFile.declared.tree.ExportMethod.{ExportMethod}
+use Rattle.cjc_world.specs.ExportFile.Members.{interface_token, interface_token_taken, not_special}
+use Rattle.cjc_world.specs.ExportFile.Writable.{EachAfter, MethodFits, MethodStands}
+use Rattle.cjc_world.specs.ExportFile.declared.tree.ExportMethod.{ExportMethod}
 use Rattle.cjc_tokens.specs.Members.{Signature}
 use Rattle.cjc_vtable.proofs.Filed.{Has, at_front, behind, has-either}
 use Rattle.cjc_world.specs.Classes.{Class, Member}

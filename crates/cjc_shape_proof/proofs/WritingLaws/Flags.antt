@@ -6,7 +6,7 @@ use Rattle.cjc_bytes.specs.AccessFlags.{acc_native, acc_shareable, acc_strict, a
 use Rattle.cjc_bytes.specs.AccessFlags.{is_abstract, is_interface, is_private, is_static}
 use Rattle.cjc_components.specs.ExportFile.{without}
 use Rattle.cjc_bytes.proofs.Bools.{or_left, or_right}
-use Rattle.cjc_vtable.specs.Subset.Flags.{has_two_accesses, is_unfit_method}
+use Rattle.cjc_classes.specs.Subset.Flags.{has_two_accesses, is_unfit_method}
 use Rattle.cjc_tokens.specs.Members.{is_constructor, is_initialiser}
 
 -- the flags of an exported class tell an interface as those of its file do

@@ -11,7 +11,7 @@ use Rattle.std.proofs.lemmas.Option.{slice_get-map, slice_get_cases, slice_get_w
 use Rattle.cjc_bytes.specs.AccessFlags.{is_abstract, is_interface}
 use Rattle.cjc_bytes.proofs.Bools.{or_left}
 use Rattle.cjc_bytes.proofs.Gets.{in_front as at_front, get_behind, mapped_at}
-use Rattle.cjc_tokens.specs.ClassFile.declared.tree.ClassTree.{ClassTree}
+use Rattle.cjc_world.specs.ClassFile.declared.tree.ClassTree.{ClassTree}
 use Rattle.cjc_components.specs.Class.{is_shareable}
 use Rattle.cjc_components.specs.Descriptor.{as_added, method_in, methods_with_added, no_member}
 use Rattle.cjc_components.specs.ExportFile.{added_from, declares, export_class, inherited, inherited_from, is_listed}
@@ -19,13 +19,13 @@ use Rattle.cjc_components.specs.ExportFile.{method_entry, method_meant, methods_
 use Rattle.cjc_components.specs.Exports.{exported_classes}
 use Rattle.cjc_components.specs.Names.{member_token}
 use Rattle.cjc_components.specs.Package.{Package, has_applets, world}
-use Rattle.cjc_tokens.specs.ExportFile.Members.{not_special}
-use Rattle.cjc_tokens.specs.ExportFile.Writable.{EachAfter, MethodStands}
-use Rattle.cjc_tokens.specs.ExportFile.declared.tree.ExportMethod.{ExportMethod}
+use Rattle.cjc_world.specs.ExportFile.Members.{not_special}
+use Rattle.cjc_world.specs.ExportFile.Writable.{EachAfter, MethodStands}
+use Rattle.cjc_world.specs.ExportFile.declared.tree.ExportMethod.{ExportMethod}
 use Rattle.cjc_shape.proofs.ExportedOwn.{IsOwn, own_class}
 use Rattle.cjc_shape.proofs.ExportedTokens.{low_tokens}
-use Rattle.cjc_shape.specs.Judge.declared.judged.Judged.{Judged}
-use Rattle.cjc_components.specs.List.Listed.{ListTree}
+use Rattle.cjc_shape.specs.LowerJudge.declared.judged.Judged.{Judged}
+use Rattle.cjc_classes.specs.List.Listed.{ListTree}
 use Rattle.cjc_narrow_proof.proofs.LawsLaws.Own.{class_by_name, first_here, own_kept}
 use Rattle.cjc_tokens.proofs.TokenLaws.Meant.{found_method, has_token, above}
 use Rattle.cjc_tokens.proofs.Facts.{same-refl, same-true}

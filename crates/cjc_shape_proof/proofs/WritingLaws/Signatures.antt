@@ -3,7 +3,7 @@ use Rattle.std.proofs.Common.{◌≡◌, ℕ, zero, suc, refl, sym, ap, subst, �
 use Rattle.std.proofs.Common.{Contains, ⊎_elim, Some}
 use Rattle.std.specs.Prelude.{◌||◌, codes, length, option_map, position, slice_get, if◌then◌else◌}
 use Rattle.std.specs.Str.{bytes_eq}
-use Rattle.cjc_tokens.specs.Fixpoint.Working.Edges.{contains_head, contains_tail}
+use Rattle.cjc_vtable.specs.Fixpoint.Working.Edges.{contains_head, contains_tail}
 use Rattle.cjc_tokens.proofs.Facts.{position-cons, same-refl, same-true}
 use Rattle.cjc_tokens.proofs.Held.{new-fresh}
 use Rattle.cjc_tokens.specs.Members.{Signature, is_initialiser, same}

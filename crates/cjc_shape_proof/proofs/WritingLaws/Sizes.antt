@@ -4,7 +4,7 @@ use Rattle.std.specs.Prelude.{nat_lt, if◌then◌else◌}
 use Rattle.std.proofs.lemmas.Bool.{ltb-false}
 use Rattle.cjc_bytes.specs.Breaks.{at}
 use Rattle.cjc_bytes.proofs.Bools.{or_left, or_right}
-use Rattle.cjc_components.specs.CapWrite.Files.{infos_of, is_too_large, limit_of}
+use Rattle.cjc_classes.specs.CapWrite.Files.{infos_of, is_too_large, limit_of}
 use Rattle.cjc_components.specs.Components.{components_of}
 use Rattle.cjc_components.specs.Limits.{has_far_types, has_large_component, size_breaks, spot_of_list, widest_method}
 use Rattle.cjc_components.specs.Package.{Package}

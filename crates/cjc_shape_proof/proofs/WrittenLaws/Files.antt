@@ -8,36 +8,36 @@ use Rattle.cjc_bytes.specs.Format.{FileSpells}
 use Rattle.cjc_bytes.specs.declared.settings.FileLine.{FileLine}
 use Rattle.cjc_bytes.proofs.Gets.{all_at}
 use Rattle.cjc_world.proofs.ClassFileFitting.{spelt_fits}
-use Rattle.cjc_tokens.specs.ClassFile.ClassFile.{class_file}
-use Rattle.cjc_tokens.specs.ClassFile.Fits as fits
-use Rattle.cjc_tokens.specs.ClassFile.declared.tree.ClassTree.{ClassTree}
-use Rattle.cjc_components.specs.Clinit.Image.{IsImage}
-use Rattle.cjc_check_proof.specs.LowerWorldProof.Initialisers.Values.{StandOnce}
-use Rattle.cjc_narrow_proof.specs.Bytecode.PackageCodes.{all_codes}
+use Rattle.cjc_world.specs.ClassFile.ClassFile.{class_file}
+use Rattle.cjc_world.specs.ClassFile.Fits as fits
+use Rattle.cjc_world.specs.ClassFile.declared.tree.ClassTree.{ClassTree}
+use Rattle.cjc_classes.specs.Clinit.Image.{IsImage}
+use Rattle.cjc_check_proof.specs.WorldProof.Initialisers.Values.{StandOnce}
+use Rattle.cjc_components.specs.Bytecode.PackageCodes.{all_codes}
 use Rattle.cjc_components.specs.Package.{Package}
-use Rattle.cjc_shape.specs.Judge.Rules.{settings_of}
-use Rattle.cjc_shape.specs.Judge.Spelt.{FileTree, classes_of, exports_of}
-use Rattle.cjc_shape.specs.Judge.Spelt as spelt_files
-use Rattle.cjc_shape.specs.Judge.Trees.{AllSpelt}
-use Rattle.cjc_shape.specs.Judge.declared.judged.Judged.{Judged}
+use Rattle.cjc_shape.specs.LowerJudge.Rules.{settings_of}
+use Rattle.cjc_shape.specs.LowerJudge.Spelt.{FileTree, classes_of, exports_of}
+use Rattle.cjc_shape.specs.LowerJudge.Spelt as spelt_files
+use Rattle.cjc_shape.specs.LowerJudge.Trees.{AllSpelt}
+use Rattle.cjc_shape.specs.LowerJudge.declared.judged.Judged.{Judged}
 use Rattle.cjc_shape.proofs.JudgedLaws.Selected.{judged_writable}
 use Rattle.cjc_shape.specs.Judged.Tested.{AreFiles, IsTested}
-use Rattle.cjc_components.specs.List.Listed.{ListTree}
+use Rattle.cjc_classes.specs.List.Listed.{ListTree}
 use Rattle.cjc_narrow_proof.specs.Laws.Unbroken.{AreSpelt, IsUnbroken}
 use Rattle.cjc_shape.proofs.PreparedLaws.Sound.{is_tested, is_unbroken}
 use Rattle.cjc_narrow_proof.proofs.BytecodeMembers.{read_class}
-use Rattle.cjc_narrow_proof.specs.Bytecode.ReadLaws.Members.{IsReadClass}
-use Rattle.cjc_check_proof.specs.LowerWorldProof.Files.{AreReadFiles}
-use Rattle.cjc_vtable.specs.Subset.Checks.{check_breaks}
+use Rattle.cjc_components.specs.Bytecode.ReadLaws.Members.{IsReadClass}
+use Rattle.cjc_check_proof.specs.WorldProof.Files.{AreReadFiles}
+use Rattle.cjc_classes.specs.Subset.Checks.{check_breaks}
 use Rattle.cjc_narrow_proof.proofs.TablesLaws.Spelt.{class_read}
-use Rattle.cjc_check_proof.specs.LowerTokenProof.Tables.Sound.{AreFieldDescs, IsSound, export_count}
+use Rattle.cjc_check_proof.specs.TokenProof.Tables.Sound.{AreFieldDescs, IsSound, export_count}
 use Rattle.cjc_vtable.specs.Kept.{AreRead, BreaksNone, IsKept}
 use Rattle.cjc_shape.proofs.WholeLaws.Drafts.{same_spelt}
 use Rattle.cjc_shape.proofs.WholeLaws.Ints.{package_free}
 use Rattle.cjc_shape.proofs.WholeLaws.Second.{package_is_draft}
 use Rattle.cjc_world.specs.Files.{Files}
 use Rattle.cjc_world.specs.Rules.{breaks}
-use Rattle.cjc_check_proof.specs.LowerTokenProof.WrittenCalls.Standing.{AreMethods}
+use Rattle.cjc_check_proof.specs.TokenProof.WrittenCalls.Standing.{AreMethods}
 use Rattle.cjc_shape_proof.specs.Written.Converted.{IsConverted}
 use Rattle.cjc_shape_proof.proofs.WrittenLaws.PackageNames.{package_named}
 use Rattle.cjc_shape_proof.proofs.WrittenLaws.FittingLaws.Initialisers.{stand_once}

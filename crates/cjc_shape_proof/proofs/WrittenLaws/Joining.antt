@@ -1,47 +1,47 @@
 -- The run of a package's components is the run of its narrow code, from the first entry on.
 use Rattle.std.proofs.Common.{◌≡◌, ℕ, refl, sym, ap, subst, ◌∙◌, Bool, true, List, [], ◌∷◌, map}
 use Rattle.std.specs.Prelude.{◌≢◌, Option, Some, None}
-use Rattle.cjc_components.specs.CardSemantics.Bytecode.Alike.{IsFound, KnownKind, KnownState, no_frames, reached_as}
-use Rattle.cjc_components.specs.CardSemantics.Bytecode.Alike.{start_as}
-use Rattle.cjc_components.specs.CardSemantics.Bytecode.Alike.{state_as}
-use Rattle.cjc_components.specs.CardSemantics.Bytecode.Effects.{HeapObject, Memory, Numbers, Object, References}
-use Rattle.cjc_components.specs.CardSemantics.Bytecode.Effects.{shape}
-use Rattle.cjc_components.specs.CardSemantics.Bytecode.Machine.{Reached, Start, State, Within}
-use Rattle.cjc_components.specs.CardSemantics.Bytecode.Machine as machine
-use Rattle.cjc_components.specs.CardSemantics.Bytecode.Renaming.{KnownHeap, heap_object_as, memory_as, no_things}
-use Rattle.cjc_components.specs.CardSemantics.Bytecode.Renaming.{numbers_known}
-use Rattle.cjc_components.specs.CardSemantics.Bytecode.Renaming.{one_thing, option_as, shape_as}
-use Rattle.cjc_check_proof.specs.LowerTokenProof.ByToken.Classes.{memories, tests}
-use Rattle.cjc_check_proof.specs.LowerTokenProof.ByToken.Objects.{slots_of}
-use Rattle.cjc_check_proof.specs.LowerTokenProof.ByToken.Cells.{image_of}
+use Rattle.cjc_narrow_proof.specs.CardSemantics.Bytecode.Alike.{IsFound, KnownKind, KnownState, no_frames, reached_as}
+use Rattle.cjc_narrow_proof.specs.CardSemantics.Bytecode.Alike.{start_as}
+use Rattle.cjc_narrow_proof.specs.CardSemantics.Bytecode.Alike.{state_as}
+use Rattle.cjc_narrow_proof.specs.CardSemantics.Bytecode.Effects.{HeapObject, Memory, Numbers, Object, References}
+use Rattle.cjc_narrow_proof.specs.CardSemantics.Bytecode.Effects.{shape}
+use Rattle.cjc_narrow_proof.specs.CardSemantics.Bytecode.Machine.{Reached, Start, State, Within}
+use Rattle.cjc_narrow_proof.specs.CardSemantics.Bytecode.Machine as machine
+use Rattle.cjc_narrow_proof.specs.CardSemantics.Bytecode.Renaming.{KnownHeap, heap_object_as, memory_as, no_things}
+use Rattle.cjc_narrow_proof.specs.CardSemantics.Bytecode.Renaming.{numbers_known}
+use Rattle.cjc_narrow_proof.specs.CardSemantics.Bytecode.Renaming.{one_thing, option_as, shape_as}
+use Rattle.cjc_check_proof.specs.TokenProof.ByToken.Classes.{memories, tests}
+use Rattle.cjc_check_proof.specs.TokenProof.ByToken.Objects.{slots_of}
+use Rattle.cjc_check_proof.specs.TokenProof.ByToken.Cells.{image_of}
 use Rattle.cjc_bytes.specs.declared.fault.MemberId.{MemberId}
-use Rattle.cjc_check_proof.specs.LowerTokenProof.Calls.Reaching as reaching
-use Rattle.cjc_components.specs.CardSemantics.Machine.ByToken as card
-use Rattle.cjc_components.specs.CardSemantics.Machine.Calls
-use Rattle.cjc_components.specs.CardSemantics.Machine.ByToken.{by_token}
-use Rattle.cjc_components.specs.CardSemantics.Machine.Statics.{first_memory as first_on_card}
+use Rattle.cjc_check_proof.specs.TokenProof.Calls.Reaching as reaching
+use Rattle.cjc_narrow_proof.specs.CardSemantics.Machine.ByToken as card
+use Rattle.cjc_narrow_proof.specs.CardSemantics.Machine.Calls
+use Rattle.cjc_narrow_proof.specs.CardSemantics.Machine.ByToken.{by_token}
+use Rattle.cjc_narrow_proof.specs.CardSemantics.Machine.Statics.{first_memory as first_on_card}
 use Rattle.cjc_components.specs.Methods.{placed_methods}
 use Rattle.cjc_components.specs.Names.{class_at}
 use Rattle.cjc_components.specs.Package.{Package, world}
-use Rattle.cjc_components.specs.NCode.Lowering.Agreement.{Cells, IsAmong, IsKnownCall, code_alone, known_by, names}
-use Rattle.cjc_components.specs.NCode.Lowering.Naming.{callee}
-use Rattle.cjc_components.specs.NCode.Lowering.Placed.{Placed, code_of, offset_of}
-use Rattle.cjc_components.specs.Narrow.Rows.Package.{first_memory, named}
-use Rattle.cjc_components.specs.Narrow.Rows.Package as narrow
-use Rattle.cjc_components.specs.NCode.ByLabel.{Callee, by_label}
-use Rattle.cjc_components.specs.NCode.ByLabel as labels
-use Rattle.cjc_components.specs.Script.Sorts.{Shape, shape_name}
-use Rattle.cjc_components.specs.Script.declared.report.Outcome.TheVariants.{Stuck}
-use Rattle.cjc_components.specs.Script.declared.report.Report.{Report}
-use Rattle.cjc_components.specs.Script.declared.script.Script.{Script}
-use Rattle.cjc_check_proof.specs.LowerTokenProof.Tables.Known.{known_names, order_of}
-use Rattle.cjc_check_proof.specs.LowerTokenProof.Tables.Loading.{loaded, naming}
-use Rattle.cjc_check_proof.specs.LowerTokenProof.Tables.Tables.{CallTablesAgree}
+use Rattle.cjc_narrow_proof.specs.NCode.Lowering.Agreement.{Cells, IsAmong, IsKnownCall, code_alone, known_by, names}
+use Rattle.cjc_narrow_proof.specs.NCode.Lowering.Naming.{callee}
+use Rattle.cjc_narrow_proof.specs.NCode.Lowering.Placed.{Placed, code_of, offset_of}
+use Rattle.cjc_classes.specs.Narrow.Rows.Package.{first_memory, named}
+use Rattle.cjc_classes.specs.Narrow.Rows.Package as narrow
+use Rattle.cjc_narrow_proof.specs.NCode.ByLabel.{Callee, by_label}
+use Rattle.cjc_narrow_proof.specs.NCode.ByLabel as labels
+use Rattle.cjc_narrow_proof.specs.Script.Sorts.{Shape, shape_name}
+use Rattle.cjc_narrow_proof.specs.Script.declared.report.Outcome.TheVariants.{Stuck}
+use Rattle.cjc_narrow_proof.specs.Script.declared.report.Report.{Report}
+use Rattle.cjc_narrow_proof.specs.Script.declared.script.Script.{Script}
+use Rattle.cjc_check_proof.specs.TokenProof.Tables.Known.{known_names, order_of}
+use Rattle.cjc_check_proof.specs.TokenProof.Tables.Loading.{loaded, naming}
+use Rattle.cjc_check_proof.specs.TokenProof.Tables.Tables.{CallTablesAgree}
 use Rattle.cjc_world.specs.Lookup.{object}
 use Rattle.cjc_world.specs.Subtype.{is_subtype}
 use Rattle.cjc_world.specs.declared.image.ArrayCell.{ArrayCell}
-use Rattle.cjc_check_proof.specs.LowerTokenProof.WrittenCalls.Calls.{IsNamed, Receives, none}
-use Rattle.cjc_check_proof.specs.LowerTokenProof.WrittenCalls.Standing.{place}
+use Rattle.cjc_check_proof.specs.TokenProof.WrittenCalls.Calls.{IsNamed, Receives, none}
+use Rattle.cjc_check_proof.specs.TokenProof.WrittenCalls.Standing.{place}
 use Rattle.cjc_shape_proof.specs.Written.Joined.{IsJoined, placed_code}
 
 -- ---- names that stay

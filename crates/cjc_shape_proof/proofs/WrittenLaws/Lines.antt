@@ -2,10 +2,10 @@
 use Rattle.std.proofs.Common.{◌≡◌, ℕ, ◌≤◌, sym, subst, arith, List, [], ◌∷◌, length}
 use Rattle.cjc_bytes.specs.declared.settings.FileLine.{FileLine}
 use Rattle.cjc_bytes.proofs.Numbers.{one_file}
-use Rattle.cjc_shape.specs.Judge.Spelt.{FileTree, exports_of}
-use Rattle.cjc_shape.specs.Judge.Spelt as spelt_files
-use Rattle.cjc_shape.specs.Judge.Trees.{AllSpelt}
-use Rattle.cjc_check_proof.specs.LowerTokenProof.Tables.Sound.{export_count}
+use Rattle.cjc_shape.specs.LowerJudge.Spelt.{FileTree, exports_of}
+use Rattle.cjc_shape.specs.LowerJudge.Spelt as spelt_files
+use Rattle.cjc_shape.specs.LowerJudge.Trees.{AllSpelt}
+use Rattle.cjc_check_proof.specs.TokenProof.Tables.Sound.{export_count}
 use Rattle.cjc_check_proof.proofs.TokenProofFiled.{export_count-cons}
 
 -- there are no more export files than lines of export files

@@ -9,37 +9,37 @@ use Rattle.std.proofs.lemmas.Option.{slice_get-map}
 use Rattle.cjc_bytes.specs.declared.fault.MemberId.{MemberId}
 use Rattle.cjc_bytes.proofs.Gets.{all_at, contained, item_has}
 use Rattle.cjc_bytes.proofs.Lists.{none_left}
-use Rattle.cjc_narrow_proof.specs.JvmSemantics.Linked.{Method}
-use Rattle.cjc_narrow_proof.specs.JvmSemantics.OnePackage.{method_at, method_by, method_in}
+use Rattle.cjc_classes.specs.JvmSemantics.Linked.{Method}
+use Rattle.cjc_classes.specs.JvmSemantics.OnePackage.{method_at, method_by, method_in}
 use Rattle.cjc_world.proofs.ClassFileFitting.{spelt_fits}
-use Rattle.cjc_tokens.specs.ClassFile.Code.{CodeTree}
-use Rattle.cjc_tokens.specs.ClassFile.Fits as fits
-use Rattle.cjc_tokens.specs.ClassFile.declared.tree.ClassTree.{ClassTree}
-use Rattle.cjc_tokens.specs.ClassFile.declared.tree.MethodTree.{MethodTree}
-use Rattle.cjc_narrow_proof.specs.Bytecode.Decoded.{of_code, of_method}
-use Rattle.cjc_narrow_proof.specs.Bytecode.PackageCodes.{all_codes}
-use Rattle.cjc_narrow_proof.specs.Bytecode.declared.method_code.MethodCode.{MethodCode}
+use Rattle.cjc_world.specs.ClassFile.Code.{CodeTree}
+use Rattle.cjc_world.specs.ClassFile.Fits as fits
+use Rattle.cjc_world.specs.ClassFile.declared.tree.ClassTree.{ClassTree}
+use Rattle.cjc_world.specs.ClassFile.declared.tree.MethodTree.{MethodTree}
+use Rattle.cjc_components.specs.Bytecode.Decoded.{of_code, of_method}
+use Rattle.cjc_components.specs.Bytecode.PackageCodes.{all_codes}
+use Rattle.cjc_components.specs.Bytecode.declared.method_code.MethodCode.{MethodCode}
 use Rattle.cjc_check_proof.specs.Made.{AllAreMade, IsMade}
 use Rattle.cjc_components.specs.Limits.{layout_breaks, of_methods, widest_method}
 use Rattle.cjc_components.specs.Methods.{method_size}
 use Rattle.cjc_components.specs.Package.{LaidMethod, Package, codes, pool, world}
 use Rattle.cjc_components.specs.Written.{IsWritten, code_at}
-use Rattle.cjc_components.specs.Emit.Emitted.{CanBeWritten, placed_at}
+use Rattle.cjc_classes.specs.Emit.Emitted.{CanBeWritten, placed_at}
 use Rattle.cjc_check_proof.proofs.LimitsLaws.Limits.{method_counted}
 use Rattle.cjc_check_proof.proofs.LimitsLaws.Offsets.{header_few}
-use Rattle.cjc_shape.specs.Judge.declared.judged.Judged.{Judged}
+use Rattle.cjc_shape.specs.LowerJudge.declared.judged.Judged.{Judged}
 use Rattle.cjc_components.proofs.LayoutPlaces.{all_wide}
-use Rattle.cjc_components.specs.Layout.Layouts.{IsWhole}
-use Rattle.cjc_components.specs.List.Listed.{ListTree}
-use Rattle.cjc_components.specs.NCode.Lowering.Naming.{Naming}
-use Rattle.cjc_shape.specs.Methods.Ready.{AreReady, AreRows, IsOwn}
-use Rattle.cjc_components.specs.Narrow.Rows.Selected.{near_fields}
+use Rattle.cjc_classes.specs.Layout.Layouts.{IsWhole}
+use Rattle.cjc_classes.specs.List.Listed.{ListTree}
+use Rattle.cjc_narrow_proof.specs.NCode.Lowering.Naming.{Naming}
+use Rattle.cjc_shape.specs.LowerMethods.Ready.{AreReady, AreRows, IsOwn}
+use Rattle.cjc_classes.specs.Narrow.Rows.Selected.{near_fields}
 use Rattle.cjc_shape.proofs.PreparedLaws.Sound.{are_ready}
 use Rattle.cjc_narrow_proof.specs.Selected.Keeps.{FindsItself}
-use Rattle.cjc_narrow_proof.specs.Types.declared.state.State.{State}
-use Rattle.cjc_narrow_proof.specs.Types.Flow.{body_of}
-use Rattle.cjc_narrow_proof.specs.Types.Tables.{IsLeastTable, IsMethodOf}
-use Rattle.cjc_narrow_proof.specs.Types.declared.table.TypeTable.{TypeTable}
+use Rattle.cjc_classes.specs.Types.declared.state.State.{State}
+use Rattle.cjc_classes.specs.Types.Flow.{body_of}
+use Rattle.cjc_classes.specs.Types.Tables.{IsLeastTable, IsMethodOf}
+use Rattle.cjc_classes.specs.Types.declared.table.TypeTable.{TypeTable}
 use Rattle.cjc_vtable.proofs.Numbers.{at-tree}
 use Rattle.cjc_shape.proofs.WholeLaws.Drafts.{rows_agree}
 use Rattle.cjc_shape.proofs.WholeLaws.Ordered.{all_own}
@@ -48,7 +48,7 @@ use Rattle.cjc_world.specs.Classes.{all_classes, class_at, declared}
 use Rattle.cjc_world.specs.Files.{Files}
 use Rattle.cjc_world.specs.Order.{method_order}
 use Rattle.cjc_world.specs.declared.found.Found.{Found}
-use Rattle.cjc_check_proof.specs.LowerTokenProof.WrittenCalls.Standing.{IsSmall}
+use Rattle.cjc_check_proof.specs.TokenProof.WrittenCalls.Standing.{IsSmall}
 use Rattle.cjc_shape_proof.specs.Written.Converted.{IsConverted}
 use Rattle.cjc_shape_proof.proofs.WrittenLaws.Files.{own_unbroken, read_files, same_files}
 use Rattle.cjc_shape_proof.proofs.WrittenLaws.Ordering.{IsOrdered, ordered_by}

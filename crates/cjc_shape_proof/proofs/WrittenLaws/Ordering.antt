@@ -3,53 +3,53 @@
 use Rattle.std.proofs.Common.{◌≡◌, ℕ, suc, ◌+◌, refl, ap, sym, subst, ◌∙◌, Bool, true, false, List, [], ◌∷◌, map}
 use Rattle.std.specs.Prelude.{◌≢◌, Option, Some, None, nat_lt, option_map, slice_get, if◌then◌else◌}
 use Rattle.cjc_narrow_proof.proofs.CardSemanticsTogether.{runs_agree}
-use Rattle.cjc_components.specs.CardSemantics.Bytecode.Alike.{KnownState, Names, SettingsAlike, no_frames, reached_as}
-use Rattle.cjc_components.specs.CardSemantics.Bytecode.Alike.{start_as}
-use Rattle.cjc_components.specs.CardSemantics.Bytecode.Effects.{Memory}
-use Rattle.cjc_components.specs.CardSemantics.Bytecode.Machine.{Nowhere, State, Within}
-use Rattle.cjc_components.specs.CardSemantics.Bytecode.Machine as machine
-use Rattle.cjc_components.specs.CardSemantics.Bytecode.Renaming.{AreAlike, KnownHeap, no_things, numbers_known}
-use Rattle.cjc_components.specs.CardSemantics.Bytecode.Renaming.{object_known}
-use Rattle.cjc_components.specs.CardSemantics.Bytecode.Renaming.{one_thing, option_as, shape_as}
+use Rattle.cjc_narrow_proof.specs.CardSemantics.Bytecode.Alike.{KnownState, Names, SettingsAlike, no_frames, reached_as}
+use Rattle.cjc_narrow_proof.specs.CardSemantics.Bytecode.Alike.{start_as}
+use Rattle.cjc_narrow_proof.specs.CardSemantics.Bytecode.Effects.{Memory}
+use Rattle.cjc_narrow_proof.specs.CardSemantics.Bytecode.Machine.{Nowhere, State, Within}
+use Rattle.cjc_narrow_proof.specs.CardSemantics.Bytecode.Machine as machine
+use Rattle.cjc_narrow_proof.specs.CardSemantics.Bytecode.Renaming.{AreAlike, KnownHeap, no_things, numbers_known}
+use Rattle.cjc_narrow_proof.specs.CardSemantics.Bytecode.Renaming.{object_known}
+use Rattle.cjc_narrow_proof.specs.CardSemantics.Bytecode.Renaming.{one_thing, option_as, shape_as}
 use Rattle.cjc_bytes.specs.Breaks.{RulePlace}
 use Rattle.cjc_bytes.specs.declared.fault.MemberId.{MemberId}
-use Rattle.cjc_narrow_proof.specs.JvmSemantics.Linked.{Method}
-use Rattle.cjc_narrow_proof.specs.JvmSemantics.Linked as linked
-use Rattle.cjc_narrow_proof.specs.JvmSemantics.OnePackage.{method_at}
+use Rattle.cjc_classes.specs.JvmSemantics.Linked.{Method}
+use Rattle.cjc_classes.specs.JvmSemantics.Linked as linked
+use Rattle.cjc_classes.specs.JvmSemantics.OnePackage.{method_at}
 use Rattle.cjc_components.specs.Limits.{order_breaks}
 use Rattle.cjc_components.specs.Methods.{in_table_order, method_size}
-use Rattle.cjc_tokens.specs.ClassFile.declared.tree.Catch.{Catch}
-use Rattle.cjc_narrow_proof.specs.Bytecode.declared.insn.JInsn.{JInsn}
+use Rattle.cjc_world.specs.ClassFile.declared.tree.Catch.{Catch}
+use Rattle.cjc_components.specs.Bytecode.declared.insn.JInsn.{JInsn}
 use Rattle.cjc_components.specs.Package.{LaidMethod, Package, pool}
-use Rattle.cjc_components.specs.Layout.Handlers.{table_order}
-use Rattle.cjc_components.specs.Layout.Refusals.{least, overtaking}
-use Rattle.cjc_components.specs.NCode.Lowering.Agreement.{Cells, IsKnownCall, everything, known_by}
+use Rattle.cjc_classes.specs.Layout.Handlers.{table_order}
+use Rattle.cjc_classes.specs.Layout.Refusals.{least, overtaking}
+use Rattle.cjc_narrow_proof.specs.NCode.Lowering.Agreement.{Cells, IsKnownCall, everything, known_by}
 use Rattle.cjc_narrow_proof.proofs.NCodeByCode.{kind_stays, operation_known, operation_stays, option_stays}
 use Rattle.cjc_narrow_proof.proofs.NCodeByCode.{shape_stays}
-use Rattle.cjc_components.specs.Narrow.Rows.Package.{code_of, flags_of, first_memory, read_of, named, named_by}
-use Rattle.cjc_components.specs.Narrow.Rows.Package.{on_class, reached}
-use Rattle.cjc_components.specs.Narrow.Rows.Package.{reached_by}
-use Rattle.cjc_components.specs.Narrow.Rows.Package.{selected_on, start_of}
-use Rattle.cjc_components.specs.Narrow.Rows.Package as narrow
-use Rattle.cjc_components.specs.Narrow.Rows.Resolved.{method_found, resolution}
-use Rattle.cjc_components.specs.Narrow.Pairs.Roles.{with_pairs}
-use Rattle.cjc_components.specs.Narrow.Rows.Selected.{near_fields}
-use Rattle.cjc_components.specs.NCode.ByLabel.{Callee, Named, by_label, classes, handler}
-use Rattle.cjc_components.specs.NCode.ByLabel
-use Rattle.cjc_components.specs.NCode.Written.{catch_at, catches_at, place_in}
-use Rattle.cjc_components.specs.NCode.Written.{reached as reached_by_rows}
-use Rattle.cjc_components.specs.NCode.declared.narrow.NCatch.{NCatch}
-use Rattle.cjc_components.specs.NCode.declared.narrow.NMethod.{NMethod}
-use Rattle.cjc_components.specs.Script.Sorts.{Shape, shape_name}
-use Rattle.cjc_components.specs.Script.declared.report.Outcome.TheVariants.{Stuck}
-use Rattle.cjc_components.specs.Script.declared.script.Script.{Script}
+use Rattle.cjc_classes.specs.Narrow.Rows.Package.{code_of, flags_of, first_memory, read_of, named, named_by}
+use Rattle.cjc_classes.specs.Narrow.Rows.Package.{on_class, reached}
+use Rattle.cjc_classes.specs.Narrow.Rows.Package.{reached_by}
+use Rattle.cjc_classes.specs.Narrow.Rows.Package.{selected_on, start_of}
+use Rattle.cjc_classes.specs.Narrow.Rows.Package as narrow
+use Rattle.cjc_classes.specs.Narrow.Rows.Resolved.{method_found, resolution}
+use Rattle.cjc_classes.specs.Narrow.Pairs.Roles.{with_pairs}
+use Rattle.cjc_classes.specs.Narrow.Rows.Selected.{near_fields}
+use Rattle.cjc_narrow_proof.specs.NCode.ByLabel.{Callee, Named, by_label, classes, handler}
+use Rattle.cjc_narrow_proof.specs.NCode.ByLabel
+use Rattle.cjc_narrow_proof.specs.NCode.Written.{catch_at, catches_at, place_in}
+use Rattle.cjc_narrow_proof.specs.NCode.Written.{reached as reached_by_rows}
+use Rattle.cjc_narrow_proof.specs.NCode.declared.narrow.NCatch.{NCatch}
+use Rattle.cjc_narrow_proof.specs.NCode.declared.narrow.NMethod.{NMethod}
+use Rattle.cjc_narrow_proof.specs.Script.Sorts.{Shape, shape_name}
+use Rattle.cjc_narrow_proof.specs.Script.declared.report.Outcome.TheVariants.{Stuck}
+use Rattle.cjc_narrow_proof.specs.Script.declared.script.Script.{Script}
 use Rattle.cjc_world.specs.Classes.{Class, all_classes}
 use Rattle.cjc_world.specs.Files.{Files}
 use Rattle.cjc_world.specs.Subtype.{is_subtype}
 use Rattle.cjc_world.specs.declared.image.ArrayCell.{ArrayCell}
 use Rattle.cjc_world.specs.declared.image.StaticImage.{StaticImage}
-use Rattle.cjc_check_proof.specs.LowerTokenProof.WrittenCalls.Standing.{is_method_of, laid_code, laid_from, no_rows}
-use Rattle.cjc_check_proof.specs.LowerTokenProof.WrittenCalls.Standing.{place_from}
+use Rattle.cjc_check_proof.specs.TokenProof.WrittenCalls.Standing.{is_method_of, laid_code, laid_from, no_rows}
+use Rattle.cjc_check_proof.specs.TokenProof.WrittenCalls.Standing.{place_from}
 use Rattle.cjc_shape_proof.specs.Written.Joined.{placed_code}
 use Rattle.cjc_shape_proof.proofs.WrittenLaws.Joining.{memory_stays}
 
@@ -243,13 +243,13 @@ module _ (files : Files) (image : StaticImage) (before after : Method → NMetho
     imported_known = λ name c e. object_known refl refl;
     throwable = λ name. sym (option_stays (l.throwable name));
     throwable_known = λ name c e. object_known refl refl;
-    called = λ id. named_sorted (Rattle.cjc_narrow_proof.specs.JvmSemantics.OnePackage.entry_named files w id);
-    called_known = λ id start e. named_fine (Rattle.cjc_narrow_proof.specs.JvmSemantics.OnePackage.entry_named files w
+    called = λ id. named_sorted (Rattle.cjc_classes.specs.JvmSemantics.OnePackage.entry_named files w id);
+    called_known = λ id start e. named_fine (Rattle.cjc_classes.specs.JvmSemantics.OnePackage.entry_named files w
         id) start e;
     sent = λ kind id is_known. ap (λ x. l'.sent x id) (shape_stays kind)
-        ∙ named_sorted (Rattle.cjc_narrow_proof.specs.JvmSemantics.OnePackage.sent_named files w (shape_name kind) id);
+        ∙ named_sorted (Rattle.cjc_classes.specs.JvmSemantics.OnePackage.sent_named files w (shape_name kind) id);
     sent_known = λ kind id start is_known e. named_fine
-        (Rattle.cjc_narrow_proof.specs.JvmSemantics.OnePackage.sent_named
+        (Rattle.cjc_classes.specs.JvmSemantics.OnePackage.sent_named
         files w
         (shape_name kind) id) start e;
     name = λ c is_known. refl;

@@ -8,9 +8,9 @@ use Rattle.cjc_bytes.specs.Descriptor.{IsClassName, IsName, inside, last, more, 
 use Rattle.cjc_bytes.proofs.Bools.{both_front, both_back}
 use Rattle.cjc_bytes.proofs.Lists.{never_none}
 use Rattle.cjc_bytes.specs.Descriptor as descriptors
-use Rattle.cjc_shape.specs.Judge.Spelt.{IsRead}
-use Rattle.cjc_components.specs.List.Grammar.{is_name, is_name_byte, is_name_part}
-use Rattle.cjc_components.specs.List.Listed.{ListTree}
+use Rattle.cjc_shape.specs.LowerJudge.Spelt.{IsRead}
+use Rattle.cjc_classes.specs.List.Grammar.{is_name, is_name_byte, is_name_part}
+use Rattle.cjc_classes.specs.List.Listed.{ListTree}
 
 -- a letter, a digit, _ or $ is a byte of a name: the four that are none are no such byte
 name_byte : (b : ℕ) → is_name_byte b ≡ true → descriptors.is_name_byte b ≡ true

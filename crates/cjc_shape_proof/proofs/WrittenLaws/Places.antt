@@ -3,12 +3,12 @@ use Rattle.std.proofs.Common.{◌≡◌, ℕ, zero, suc, ◌+◌, ap, subst, ◌
 use Rattle.std.specs.Prelude.{Some, Result, Ok, slice_get}
 use Rattle.cjc_bytes.specs.declared.breaks.BrokenAt.{BrokenAt}
 use Rattle.cjc_bytes.proofs.Gets.{in_front, get_behind}
-use Rattle.cjc_tokens.specs.ClassFile.Code.{CodeTree}
-use Rattle.cjc_tokens.specs.ClassFile.declared.tree.ClassTree.{ClassTree}
-use Rattle.cjc_tokens.specs.ClassFile.declared.tree.MethodTree.{MethodTree}
-use Rattle.cjc_narrow_proof.specs.Bytecode.Decoded.{decoding}
-use Rattle.cjc_narrow_proof.specs.Bytecode.PackageCodes.{code_with, of_classes, of_methods, where_code}
-use Rattle.cjc_narrow_proof.specs.Bytecode.declared.insn.JInsn.{JInsn}
+use Rattle.cjc_world.specs.ClassFile.Code.{CodeTree}
+use Rattle.cjc_world.specs.ClassFile.declared.tree.ClassTree.{ClassTree}
+use Rattle.cjc_world.specs.ClassFile.declared.tree.MethodTree.{MethodTree}
+use Rattle.cjc_components.specs.Bytecode.Decoded.{decoding}
+use Rattle.cjc_components.specs.Bytecode.PackageCodes.{code_with, of_classes, of_methods, where_code}
+use Rattle.cjc_components.specs.Bytecode.declared.insn.JInsn.{JInsn}
 
 -- ---- each method with code is there
 

@@ -6,17 +6,17 @@ use Rattle.std.proofs.lemmas.Bool.{ltb-true}
 use Rattle.cjc_check_proof.proofs.CodeLaws.Methods.{spelt}
 use Rattle.cjc_components.specs.Methods.{placed_at}
 use Rattle.cjc_components.specs.Package.{LaidMethod}
-use Rattle.cjc_components.specs.Emit.Emitted.{CanBeWritten}
-use Rattle.cjc_components.specs.Emit.Emitted as Emitted
-use Rattle.cjc_components.specs.Layout.Handlers.{by_target, has_range, inserted, table_order}
-use Rattle.cjc_components.specs.Layout.Handlers as layouts
-use Rattle.cjc_components.specs.NCode.Lowering.Handlers.{AllLie, Catches, more, none}
-use Rattle.cjc_components.specs.NCode.Lowering.Naming.{Naming}
-use Rattle.cjc_components.specs.NCode.declared.narrow.NCatch.{NCatch}
-use Rattle.cjc_components.specs.NCode.declared.narrow.NInsn.{NInsn}
+use Rattle.cjc_classes.specs.Emit.Emitted.{CanBeWritten}
+use Rattle.cjc_classes.specs.Emit.Emitted as Emitted
+use Rattle.cjc_classes.specs.Layout.Handlers.{by_target, has_range, inserted, table_order}
+use Rattle.cjc_classes.specs.Layout.Handlers as layouts
+use Rattle.cjc_narrow_proof.specs.NCode.Lowering.Handlers.{AllLie, Catches, more, none}
+use Rattle.cjc_narrow_proof.specs.NCode.Lowering.Naming.{Naming}
+use Rattle.cjc_narrow_proof.specs.NCode.declared.narrow.NCatch.{NCatch}
+use Rattle.cjc_narrow_proof.specs.NCode.declared.narrow.NInsn.{NInsn}
 use Rattle.cjc_narrow_proof.proofs.SelectedLaws.Formed.{formed_by}
 use Rattle.cjc_narrow_proof.specs.Selected.Names.{NamesFit}
-use Rattle.cjc_check_proof.specs.LowerTokenProof.WrittenCalls.Standing.{IsReady}
+use Rattle.cjc_check_proof.specs.TokenProof.WrittenCalls.Standing.{IsReady}
 
 -- a handler that is written
 pub record IsWrittenCatch (n : Naming) (count : ℕ) (c : NCatch) : Type 0 where

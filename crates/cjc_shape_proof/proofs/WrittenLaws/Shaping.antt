@@ -14,21 +14,21 @@ use Rattle.cjc_bytes.proofs.Quantified.{any_both}
 use Rattle.cjc_bytes.proofs.Numbers.{none_at}
 use Rattle.cjc_components.specs.Limits.{form_breaks, in_class, is_too_long, layout_breaks, of_methods}
 use Rattle.cjc_components.specs.Package.{LaidMethod, Package, world}
-use Rattle.cjc_shape.specs.Judge.declared.judged.Judged.{Judged}
-use Rattle.cjc_components.specs.Narrow.Keys.Working.Same.{same_member-Decides}
-use Rattle.cjc_components.specs.Layout.Handlers.{handlers_of, table_order}
-use Rattle.cjc_components.specs.Layout.Layouts.{IsLayout}
-use Rattle.cjc_components.specs.Layout.Legal.{IsLeast}
-use Rattle.cjc_components.specs.Layout.Sizes.{bytes_before, code_size}
-use Rattle.cjc_components.specs.Layout.declared.layout.Layout.{Layout}
-use Rattle.cjc_shape.specs.Methods.Ready.{IsOwn}
-use Rattle.cjc_components.specs.List.Listed.{ListTree}
-use Rattle.cjc_components.specs.NCode.PoolOrder.{pool_order, same_key, same_member}
-use Rattle.cjc_components.specs.NCode.declared.narrow.NInsn.{NInsn}
-use Rattle.cjc_components.specs.NCode.declared.narrow.NInsn.TheVariants as insns
-use Rattle.cjc_components.specs.NCode.declared.narrow.NMethod.{NMethod}
-use Rattle.cjc_components.specs.NCode.declared.narrow.PoolKey.TheVariants as keys
-use Rattle.cjc_check_proof.specs.Pool.Pool.{IsPool, PoolView, calls, is_called, token_of}
+use Rattle.cjc_shape.specs.LowerJudge.declared.judged.Judged.{Judged}
+use Rattle.cjc_classes.specs.Narrow.Keys.Working.Same.{same_member-Decides}
+use Rattle.cjc_classes.specs.Layout.Handlers.{handlers_of, table_order}
+use Rattle.cjc_classes.specs.Layout.Layouts.{IsLayout}
+use Rattle.cjc_classes.specs.Layout.Legal.{IsLeast}
+use Rattle.cjc_classes.specs.Layout.Sizes.{bytes_before, code_size}
+use Rattle.cjc_classes.specs.Layout.declared.layout.Layout.{Layout}
+use Rattle.cjc_shape.specs.LowerMethods.Ready.{IsOwn}
+use Rattle.cjc_classes.specs.List.Listed.{ListTree}
+use Rattle.cjc_narrow_proof.specs.NCode.PoolOrder.{pool_order, same_key, same_member}
+use Rattle.cjc_narrow_proof.specs.NCode.declared.narrow.NInsn.{NInsn}
+use Rattle.cjc_narrow_proof.specs.NCode.declared.narrow.NInsn.TheVariants as insns
+use Rattle.cjc_narrow_proof.specs.NCode.declared.narrow.NMethod.{NMethod}
+use Rattle.cjc_narrow_proof.specs.NCode.declared.narrow.PoolKey.TheVariants as keys
+use Rattle.cjc_shape.specs.Pool.Pool.{IsPool, PoolView, calls, is_called, token_of}
 use Rattle.cjc_tokens.proofs.Facts.{position-cons}
 use Rattle.cjc_tokens.specs.Tokens.{Assigned, joined}
 use Rattle.cjc_shape.proofs.PreparedLaws.Sound.{listed}

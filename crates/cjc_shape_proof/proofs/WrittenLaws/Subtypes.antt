@@ -8,8 +8,8 @@ use Rattle.std.specs.Str.{bytes_eq}
 use Rattle.cjc_bytes.specs.AccessFlags.{is_interface}
 use Rattle.cjc_bytes.proofs.Lists.{name_is, bytes_true}
 use Rattle.cjc_check_proof.proofs.WorldProofTypes.{below_type, type_below, receiver_class}
-use Rattle.cjc_components.specs.Script.Sorts.{Booleans, Bytes, Element, Ints, OfNumbers, OfReferences, Shape, Shorts}
-use Rattle.cjc_components.specs.Script.Sorts.{shape_name}
+use Rattle.cjc_narrow_proof.specs.Script.Sorts.{Booleans, Bytes, Element, Ints, OfNumbers, OfReferences, Shape, Shorts}
+use Rattle.cjc_narrow_proof.specs.Script.Sorts.{shape_name}
 use Rattle.cjc_tokens.specs.Methods.{interfaces_at}
 use Rattle.cjc_world.proofs.UpwardLaws.Lines.{gathered_has, line_below, on_line, same_class}
 use Rattle.cjc_world.specs.Upwards.{Below, Has, IsOrdered, OnLine, after, foremost, here, up}
@@ -23,8 +23,8 @@ use Rattle.cjc_world.specs.Supertypes.{unknown_here}
 use Rattle.cjc_world.specs.Supertypes as supertype_trees
 use Rattle.cjc_world.specs.Lookup.{object}
 use Rattle.cjc_world.specs.Subtype.{is_subtype, starts}
-use Rattle.cjc_check_proof.specs.LowerTokenProof.WrittenCalls.Calls.{KeepsSubtypes, Receives, numbers, one_of}
-use Rattle.cjc_check_proof.specs.LowerTokenProof.WrittenCalls.Calls.{references}
+use Rattle.cjc_check_proof.specs.TokenProof.WrittenCalls.Calls.{KeepsSubtypes, Receives, numbers, one_of}
+use Rattle.cjc_check_proof.specs.TokenProof.WrittenCalls.Calls.{references}
 
 -- ---- superclasses
 

@@ -9,13 +9,13 @@ use Rattle.cjc_bytes.specs.AccessFlags.{is_interface, is_private, is_static}
 use Rattle.cjc_bytes.specs.Order.{file_of}
 use Rattle.cjc_bytes.specs.declared.settings.FileLine.{FileLine}
 use Rattle.cjc_bytes.proofs.Lists.{none_left, none_right}
-use Rattle.cjc_tokens.specs.ClassFile.declared.tree.ClassTree.{ClassTree}
-use Rattle.cjc_tokens.specs.ExportFile.Members.{is_unbound, method_token_taken, method_token_wrong}
-use Rattle.cjc_tokens.specs.ExportFile.Writable.{ClassFits, IsWritable, MethodStands}
-use Rattle.cjc_tokens.specs.ExportFile.declared.tree.ExportMethod.{ExportMethod}
-use Rattle.cjc_tokens.specs.ExportFile.declared.tree.ExportTree.{ExportTree}
+use Rattle.cjc_world.specs.ClassFile.declared.tree.ClassTree.{ClassTree}
+use Rattle.cjc_world.specs.ExportFile.Members.{is_unbound, method_token_taken, method_token_wrong}
+use Rattle.cjc_world.specs.ExportFile.Writable.{ClassFits, IsWritable, MethodStands}
+use Rattle.cjc_world.specs.ExportFile.declared.tree.ExportMethod.{ExportMethod}
+use Rattle.cjc_world.specs.ExportFile.declared.tree.ExportTree.{ExportTree}
 use Rattle.cjc_check_proof.proofs.WorldProofOwn.{mapped_at}
-use Rattle.cjc_vtable.specs.Subset.Members.{imports}
+use Rattle.cjc_classes.specs.Subset.Members.{imports}
 use Rattle.cjc_tokens.proofs.Held.{token-slot}
 use Rattle.cjc_tokens.proofs.Walks.{supertypes-known}
 use Rattle.cjc_tokens.specs.Lines.{line_in, line_of}
@@ -33,7 +33,7 @@ use Rattle.cjc_world.specs.Files.{Files}
 use Rattle.cjc_world.proofs.Cycles.{class_named-name}
 use Rattle.cjc_world.proofs.Settled.{AreSupertypes-one, supertypes-AreSupertypes, lists-front}
 use Rattle.cjc_shape_proof.proofs.WrittenLaws.FittingLaws.Slots.{IsLow, IsLowMember, class_few}
-use Rattle.cjc_check_proof.specs.LowerTokenProof.WrittenCalls.Calls.{KeepsTokens}
+use Rattle.cjc_check_proof.specs.TokenProof.WrittenCalls.Calls.{KeepsTokens}
 use Rattle.cjc_shape.proofs.JudgedLaws.Tokens.{unbroken_where}
 
 -- ---- 413 at a class

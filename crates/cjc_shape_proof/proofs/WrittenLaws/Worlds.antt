@@ -5,24 +5,24 @@ use Rattle.std.specs.Prelude.{◌&&◌, ◌||◌, not, Some, is_some, slice_get}
 use Rattle.cjc_bytes.specs.AccessFlags.{is_abstract, is_interface, is_static}
 use Rattle.cjc_bytes.specs.declared.settings.Settings.{Settings}
 use Rattle.cjc_bytes.proofs.Bools.{last_of}
-use Rattle.cjc_narrow_proof.specs.JvmSemantics.OnePackage.{is_constructor, is_initialiser}
+use Rattle.cjc_classes.specs.JvmSemantics.OnePackage.{is_constructor, is_initialiser}
 use Rattle.cjc_check_proof.proofs.WorldProofOwn.{mapped_at}
-use Rattle.cjc_check_proof.specs.LowerWorldProof.Calls.Solid.{IsOwn, IsSolid}
-use Rattle.cjc_tokens.specs.ClassFile.declared.tree.ClassTree.{ClassTree}
-use Rattle.cjc_tokens.specs.ClassFile.declared.tree.MethodTree.{MethodTree}
-use Rattle.cjc_narrow_proof.specs.Bytecode.declared.method_code.MethodCode.{MethodCode}
+use Rattle.cjc_check_proof.specs.WorldProof.Calls.Solid.{IsOwn, IsSolid}
+use Rattle.cjc_world.specs.ClassFile.declared.tree.ClassTree.{ClassTree}
+use Rattle.cjc_world.specs.ClassFile.declared.tree.MethodTree.{MethodTree}
+use Rattle.cjc_components.specs.Bytecode.declared.method_code.MethodCode.{MethodCode}
 use Rattle.cjc_components.specs.Package.{Package, world}
-use Rattle.cjc_shape.specs.Judge.Rules.{has_applets, settings_of}
-use Rattle.cjc_shape.specs.Judge.declared.judged.Judged.{Judged}
-use Rattle.cjc_components.specs.List.Listed.{ListTree}
+use Rattle.cjc_shape.specs.LowerJudge.Rules.{has_applets, settings_of}
+use Rattle.cjc_shape.specs.LowerJudge.declared.judged.Judged.{Judged}
+use Rattle.cjc_classes.specs.List.Listed.{ListTree}
 use Rattle.cjc_narrow_proof.proofs.LawsLaws.ClassNames.{each_name}
 use Rattle.cjc_shape.proofs.PreparedLaws.Sound.{has_tokens}
-use Rattle.cjc_components.specs.Script.Sorts.{Shape, shape_name}
+use Rattle.cjc_narrow_proof.specs.Script.Sorts.{Shape, shape_name}
 use Rattle.cjc_check_proof.proofs.WorldProofRules.{method_kept}
 use Rattle.cjc_check_proof.proofs.WorldProofSolid.{solid as solid_of}
-use Rattle.cjc_check_proof.specs.LowerWorldProof.Files.{IsClean}
-use Rattle.cjc_vtable.specs.Subset.Checks.{check_breaks}
-use Rattle.cjc_vtable.specs.Subset.Flags.{is_unfit_method, is_unfit_method_kind}
+use Rattle.cjc_check_proof.specs.WorldProof.Files.{IsClean}
+use Rattle.cjc_classes.specs.Subset.Checks.{check_breaks}
+use Rattle.cjc_classes.specs.Subset.Flags.{is_unfit_method, is_unfit_method_kind}
 use Rattle.cjc_narrow_proof.proofs.TablesLaws.Spelt.{class_read}
 use Rattle.cjc_world.specs.Upwards.{IsOrdered}
 use Rattle.cjc_world.specs.Classes.{Class, Member, all_classes, class_named, method_of_class}
@@ -30,8 +30,8 @@ use Rattle.cjc_world.specs.Files.{Files}
 use Rattle.cjc_world.specs.Lookup.{object}
 use Rattle.cjc_world.specs.Subtype.{is_subtype, starts}
 use Rattle.cjc_tokens.specs.Rules.{token_breaks}
-use Rattle.cjc_check_proof.specs.LowerTokenProof.WrittenCalls.Calls.{KeepsSubtypes, KeepsTokens, NoStaticMethods}
-use Rattle.cjc_check_proof.specs.LowerTokenProof.WrittenCalls.Calls.{Receives}
+use Rattle.cjc_check_proof.specs.TokenProof.WrittenCalls.Calls.{KeepsSubtypes, KeepsTokens, NoStaticMethods}
+use Rattle.cjc_check_proof.specs.TokenProof.WrittenCalls.Calls.{Receives}
 use Rattle.cjc_shape_proof.specs.Written.Converted.{IsConverted}
 use Rattle.cjc_shape_proof.proofs.WrittenLaws.Files.{are_spelt, own_unbroken, read_files, same_files}
 use Rattle.cjc_shape_proof.proofs.WrittenLaws.Subtypes.{keeps_subtypes, receivers_are_objects}

@@ -1,17 +1,17 @@
 -- Packages that are converted, and what is asked of the export files beside them.
 use Rattle.std.specs.Prelude.{◌≡◌, ℕ, List, [], Some, true, false, ◌&&◌, slice_get}
-use Rattle.cjc_narrow_proof.specs.JvmSemantics.OnePackage.{is_initialiser}
+use Rattle.cjc_classes.specs.JvmSemantics.OnePackage.{is_initialiser}
 use Rattle.cjc_bytes.specs.AccessFlags.{is_interface, is_private, is_static}
 use Rattle.cjc_components.specs.Limits.{code_breaks, of_methods, size_breaks, word_breaks}
 use Rattle.cjc_components.specs.Package.{Package, world}
-use Rattle.cjc_tokens.specs.ExportFile.declared.tree.ExportClass.{ExportClass}
-use Rattle.cjc_tokens.specs.ExportFile.declared.tree.ExportMethod.{ExportMethod}
-use Rattle.cjc_shape.specs.Judge.declared.judged.Judged.{Judged}
-use Rattle.cjc_shape.specs.Judge.Spelt.{IsRead}
-use Rattle.cjc_components.specs.List.Listed.{ListTree}
+use Rattle.cjc_world.specs.ExportFile.declared.tree.ExportClass.{ExportClass}
+use Rattle.cjc_world.specs.ExportFile.declared.tree.ExportMethod.{ExportMethod}
+use Rattle.cjc_shape.specs.LowerJudge.declared.judged.Judged.{Judged}
+use Rattle.cjc_shape.specs.LowerJudge.Spelt.{IsRead}
+use Rattle.cjc_classes.specs.List.Listed.{ListTree}
 use Rattle.cjc_shape.specs.Prepared.{IsSound}
-use Rattle.cjc_check_proof.specs.LowerWorldProof.Files.{ExportsAreSound}
-use Rattle.cjc_vtable.specs.Subset.Members.{imports}
+use Rattle.cjc_check_proof.specs.WorldProof.Files.{ExportsAreSound}
+use Rattle.cjc_classes.specs.Subset.Members.{imports}
 use Rattle.cjc_tokens.specs.Members.{is_exposed}
 use Rattle.cjc_vtable.specs.Kept.{ExportsAgree}
 use Rattle.cjc_shape.specs.Whole.Conversion.{IsPackageOf}

@@ -2,30 +2,30 @@
 -- of calls, operations and objects.
 use Rattle.std.specs.Prelude.{◌≡◌, ℕ, List, Bool, true, Some, slice_get}
 use Rattle.cjc_bytes.specs.declared.fault.MemberId.{MemberId}
-use Rattle.cjc_components.specs.CardSemantics.Bytecode.Alike.{KnownThing, start_as}
-use Rattle.cjc_components.specs.CardSemantics.Bytecode.Renaming.{KnownOperation, option_as, shape_as}
-use Rattle.cjc_narrow_proof.specs.JvmSemantics.Linked.{Method}
-use Rattle.cjc_check_proof.specs.LowerTokenProof.ByToken.Cells.{are_cells}
-use Rattle.cjc_check_proof.specs.LowerTokenProof.ByToken.Classes.{memories, tests}
-use Rattle.cjc_check_proof.specs.LowerTokenProof.Calls.Reaching as reaching
-use Rattle.cjc_components.specs.CardSemantics.Machine.Calls
+use Rattle.cjc_narrow_proof.specs.CardSemantics.Bytecode.Alike.{KnownThing, start_as}
+use Rattle.cjc_narrow_proof.specs.CardSemantics.Bytecode.Renaming.{KnownOperation, option_as, shape_as}
+use Rattle.cjc_classes.specs.JvmSemantics.Linked.{Method}
+use Rattle.cjc_check_proof.specs.TokenProof.ByToken.Cells.{are_cells}
+use Rattle.cjc_check_proof.specs.TokenProof.ByToken.Classes.{memories, tests}
+use Rattle.cjc_check_proof.specs.TokenProof.Calls.Reaching as reaching
+use Rattle.cjc_narrow_proof.specs.CardSemantics.Machine.Calls
 use Rattle.cjc_components.specs.Methods.{placed_methods}
 use Rattle.cjc_components.specs.Package.{LaidMethod, Package, world}
-use Rattle.cjc_components.specs.NCode.Lowering.Agreement.{IsAmong, IsKnownCall, known_by, names}
-use Rattle.cjc_components.specs.NCode.Lowering.Handlers.{Catches}
-use Rattle.cjc_components.specs.NCode.Lowering.Naming.{callee}
-use Rattle.cjc_components.specs.NCode.Lowering.Placed.{Placed, code_of, offset_of}
-use Rattle.cjc_components.specs.Narrow.Rows.Package.{first_memory, words}
-use Rattle.cjc_components.specs.NCode.ByLabel.{Callee, operation}
-use Rattle.cjc_components.specs.NCode.declared.narrow.NCatch.{NCatch}
-use Rattle.cjc_components.specs.NCode.declared.narrow.NInsn.{NInsn}
-use Rattle.cjc_components.specs.NCode.declared.narrow.NMethod.{NMethod}
-use Rattle.cjc_components.specs.Script.Sorts.{Shape}
+use Rattle.cjc_narrow_proof.specs.NCode.Lowering.Agreement.{IsAmong, IsKnownCall, known_by, names}
+use Rattle.cjc_narrow_proof.specs.NCode.Lowering.Handlers.{Catches}
+use Rattle.cjc_narrow_proof.specs.NCode.Lowering.Naming.{callee}
+use Rattle.cjc_narrow_proof.specs.NCode.Lowering.Placed.{Placed, code_of, offset_of}
+use Rattle.cjc_classes.specs.Narrow.Rows.Package.{first_memory, words}
+use Rattle.cjc_narrow_proof.specs.NCode.ByLabel.{Callee, operation}
+use Rattle.cjc_narrow_proof.specs.NCode.declared.narrow.NCatch.{NCatch}
+use Rattle.cjc_narrow_proof.specs.NCode.declared.narrow.NInsn.{NInsn}
+use Rattle.cjc_narrow_proof.specs.NCode.declared.narrow.NMethod.{NMethod}
+use Rattle.cjc_narrow_proof.specs.Script.Sorts.{Shape}
 use Rattle.cjc_narrow_proof.specs.Selected.Names.{NamesFit}
-use Rattle.cjc_check_proof.specs.LowerTokenProof.Tables.Known.{known_names, statics_of}
-use Rattle.cjc_check_proof.specs.LowerTokenProof.Tables.Loading.{naming}
-use Rattle.cjc_check_proof.specs.LowerTokenProof.WrittenCalls.Calls.{ExportsKeep, IsNamed, Receives}
-use Rattle.cjc_check_proof.specs.LowerTokenProof.WrittenCalls.Standing.{place}
+use Rattle.cjc_check_proof.specs.TokenProof.Tables.Known.{known_names, statics_of}
+use Rattle.cjc_check_proof.specs.TokenProof.Tables.Loading.{naming}
+use Rattle.cjc_check_proof.specs.TokenProof.WrittenCalls.Calls.{ExportsKeep, IsNamed, Receives}
+use Rattle.cjc_check_proof.specs.TokenProof.WrittenCalls.Standing.{place}
 
 -- What the instructions and the handlers of its methods name stands in its pool, and means what they use.
 pub record NamesAreThere (p : Package) : Type 0 where

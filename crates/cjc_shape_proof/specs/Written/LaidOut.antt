@@ -7,11 +7,11 @@ use Rattle.cjc_components.specs.ExportFile.{export_class}
 use Rattle.cjc_components.specs.Exports.{exported_classes}
 use Rattle.cjc_components.specs.Limits.{code_breaks, of_methods, word_breaks}
 use Rattle.cjc_components.specs.Package.{Package}
-use Rattle.cjc_tokens.specs.ExportFile.ExportFile.{method_count}
-use Rattle.cjc_tokens.specs.ExportFile.Writable.{EachAfter, MethodStands}
-use Rattle.cjc_shape.specs.Judge.Spelt.{IsRead}
-use Rattle.cjc_shape.specs.Judge.declared.judged.Judged.{Judged}
-use Rattle.cjc_components.specs.List.Listed.{ListTree}
+use Rattle.cjc_world.specs.ExportFile.ExportFile.{method_count}
+use Rattle.cjc_world.specs.ExportFile.Writable.{EachAfter, MethodStands}
+use Rattle.cjc_shape.specs.LowerJudge.Spelt.{IsRead}
+use Rattle.cjc_shape.specs.LowerJudge.declared.judged.Judged.{Judged}
+use Rattle.cjc_classes.specs.List.Listed.{ListTree}
 use Rattle.cjc_shape.specs.Prepared.{IsSound}
 use Rattle.cjc_shape.specs.Whole.Conversion.{IsPackageOf}
 use Rattle.cjc_world.specs.Classes.{Class}

@@ -3,9 +3,9 @@
 //! package. It has laws alone; nothing here runs.
 
 ghost use Rattle.std.specs.Prelude.{◌≡◌, ◌≤◌, [], length, List, None, ℕ};
-ghost use Rattle.cjc_components.specs.CapWrite.Files.{limit_of, part};
-ghost use Rattle.cjc_components.specs.CapWrite.Method.{method_bytes};
-ghost use Rattle.cjc_components.specs.CapWrite.Writable.{IsWritable};
+ghost use Rattle.cjc_classes.specs.CapWrite.Files.{limit_of, part};
+ghost use Rattle.cjc_classes.specs.CapWrite.Method.{method_bytes};
+ghost use Rattle.cjc_classes.specs.CapWrite.Writable.{IsWritable};
 ghost use Rattle.cjc_check_proof.specs.Classes.Premises.{HasNearTypes, HasShortMethods, HasShortRefs, HaveInstalls};
 ghost use Rattle.cjc_check_proof.specs.Classes.Premises.{InterfacesAreUnbound};
 ghost use Rattle.cjc_components.specs.Components.{components_of};
@@ -13,10 +13,10 @@ ghost use Rattle.cjc_components.specs.ExportFile.{export_of};
 ghost use Rattle.cjc_components.specs.Limits.{size_breaks, widest_method};
 ghost use Rattle.cjc_components.specs.Package.{Package};
 ghost use Rattle.cjc_classes.specs.Descriptor.Fits.{AreFit};
-ghost use Rattle.cjc_tokens.specs.ExportFile.Writable.{IsWritable as CanBeExported};
+ghost use Rattle.cjc_world.specs.ExportFile.Writable.{IsWritable as CanBeExported};
 ghost use Rattle.cjc_check_proof.specs.Limits.Premises.{IsLimited};
-ghost use Rattle.cjc_shape.specs.Judge.declared.judged.Judged.{Judged};
-ghost use Rattle.cjc_components.specs.List.Listed.{ListTree};
+ghost use Rattle.cjc_shape.specs.LowerJudge.declared.judged.Judged.{Judged};
+ghost use Rattle.cjc_classes.specs.List.Listed.{ListTree};
 ghost use Rattle.cjc_shape_proof.specs.Written.LaidOut.{ExportedInterfacesStand, ExportedMethodsStand, IsLaidOut};
 
 use cjc_check_proof::classes::limits_are_kept;

@@ -2,14 +2,14 @@
 //! and whoever promises something of what is written. It has laws alone; nothing here runs.
 
 ghost use Rattle.std.specs.Prelude.{◌≡◌, [], ℕ, All, List, map, false, Some};
-ghost use Rattle.cjc_vtable.specs.ClassOrder.Classes.Numbers.{IsOfKind, declared_at};
+ghost use Rattle.cjc_classes.specs.ClassOrder.Classes.Numbers.{IsOfKind, declared_at};
 ghost use Rattle.cjc_components.specs.Limits.{code_breaks};
 ghost use Rattle.cjc_components.specs.Package.{Package, codes, tokens, world};
-ghost use Rattle.cjc_shape.specs.Judge.declared.judged.Judged.{Judged};
-ghost use Rattle.cjc_components.specs.List.Listed.{ListTree};
-ghost use Rattle.cjc_shape.specs.Methods.Component.Emittable.{AreEmittable};
-ghost use Rattle.cjc_shape.specs.Methods.Ready.{AreOrdered};
-ghost use Rattle.cjc_check_proof.specs.Pool.Pool.{IsPool, PoolView};
+ghost use Rattle.cjc_shape.specs.LowerJudge.declared.judged.Judged.{Judged};
+ghost use Rattle.cjc_classes.specs.List.Listed.{ListTree};
+ghost use Rattle.cjc_shape.specs.LowerMethods.Component.Emittable.{AreEmittable};
+ghost use Rattle.cjc_shape.specs.LowerMethods.Ready.{AreOrdered};
+ghost use Rattle.cjc_shape.specs.Pool.Pool.{IsPool, PoolView};
 ghost use Rattle.cjc_shape.specs.Prepared.{IsSound};
 ghost use Rattle.cjc_shape.specs.Whole.Conversion.{IsPackageOf};
 ghost use Rattle.cjc_world.specs.Classes.{all_classes};

@@ -5,10 +5,10 @@ use Rattle.std.proofs.Common.{inr, arith}
 use Rattle.std.proofs.Math.Dec.{eqb_refl, T}
 use Rattle.std.proofs.lemmas.Bool.{eqb-true, ltb-true}
 use Rattle.std.proofs.lemmas.List.Elements.{All-map, All-contains, filter_passes}
-use Rattle.cjc_types.specs.LowerFixpoint.declared.flow.Edge.{Edge}
-use Rattle.cjc_types.specs.LowerFixpoint.Dataflow.{IsLawful, IsJoin, StaysWithin, AreBelow}
+use Rattle.cjc_types.specs.Fixpoint.declared.flow.Edge.{Edge}
+use Rattle.cjc_types.specs.Fixpoint.Dataflow.{IsLawful, IsJoin, StaysWithin, AreBelow}
 use Rattle.cjc_tests_rules.specs.Flows.Names.{has, IsSet, IsIncluded, union, edge, place_edges, name_flow}
-use Rattle.cjc_types.specs.LowerFixpoint.Working.Edges.{AreBelow-map}
+use Rattle.cjc_types.specs.Fixpoint.Working.Edges.{AreBelow-map}
 
 or_cases : (a b : Bool) → IsTrue (a || b) → IsTrue a ⊎ IsTrue b
 or_cases true b h = inl refl

@@ -3,8 +3,8 @@
 use Rattle.std.specs.Prelude.{◌≡◌, ℕ, ◌==◌, ◌||◌, nat_lt, Bool, IsTrue, List, [], ◌∷◌, Option, Some, None, slice_get}
 use Rattle.std.specs.Prelude.{length, filter, map}
 use Rattle.std.specs.List.{list_any}
-use Rattle.cjc_types.specs.LowerFixpoint.declared.flow.Edge.{Edge}
-use Rattle.cjc_types.specs.LowerFixpoint.Dataflow.{Dataflow}
+use Rattle.cjc_types.specs.Fixpoint.declared.flow.Edge.{Edge}
+use Rattle.cjc_types.specs.Fixpoint.Dataflow.{Dataflow}
 
 -- whether the set has the name n
 abbrev pub has : List ℕ → ℕ → Bool

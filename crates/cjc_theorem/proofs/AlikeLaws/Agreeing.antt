@@ -1,10 +1,10 @@
 -- Runs that agree within two instructions for one agree within three, with any run that has the same reports.
 use Rattle.std.proofs.Common.{◌≡◌, ℕ, ◌*◌, ◌≤◌, ap, sym, subst, ◌∙◌, arith}
 use Rattle.std.specs.Prelude.{◌≢◌, ◌⊎◌}
-use Rattle.cjc_ncode.specs.CardSemantics.Bytecode.Runs.{Agree, Alike}
-use Rattle.cjc_jvm_semantics.specs.Script.Agree.{IsBegun}
-use Rattle.cjc_jvm_semantics.specs.Script.declared.report.Outcome.TheVariants.{Stuck}
-use Rattle.cjc_jvm_semantics.specs.Script.declared.report.Report.{Report}
+use Rattle.cjc_token_proof.specs.CardSemantics.Bytecode.Runs.{Agree, Alike}
+use Rattle.cjc_token_proof.specs.Script.Agree.{IsBegun}
+use Rattle.cjc_token_proof.specs.Script.declared.report.Outcome.TheVariants.{Stuck}
+use Rattle.cjc_token_proof.specs.Script.declared.report.Report.{Report}
 
 twice : (n m : ℕ) → 3 * n ≤ m → 2 * n ≤ m
 twice n m le = omega (arith, le)

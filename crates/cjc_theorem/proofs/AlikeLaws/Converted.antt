@@ -2,12 +2,12 @@
 use Rattle.std.proofs.Common.{◌≡◌, ℕ, sym, subst, List, []}
 use Rattle.cjc_components.specs.Limits.{code_breaks, else_of, limit_breaks, of_methods, size_breaks, word_breaks}
 use Rattle.cjc_components.specs.Package.{Package, world}
-use Rattle.cjc_shape_proof.specs.Judge.Rules.{settings_of}
-use Rattle.cjc_shape_proof.specs.Judge.Spelt.{IsRead}
-use Rattle.cjc_shape_proof.specs.Judge.declared.judged.Judged.{Judged}
-use Rattle.cjc_components.specs.List.Listed.{ListTree}
-use Rattle.cjc_shape_proof.specs.Shape.Prepared.{IsSound}
-use Rattle.cjc_token_proof.specs.WorldProof.Files.{ExportsAreSound}
+use Rattle.cjc_shape_proof.specs.LowerJudge.Rules.{settings_of}
+use Rattle.cjc_shape_proof.specs.LowerJudge.Spelt.{IsRead}
+use Rattle.cjc_shape_proof.specs.LowerJudge.declared.judged.Judged.{Judged}
+use Rattle.cjc_token_proof.specs.List.Listed.{ListTree}
+use Rattle.cjc_shape_proof.specs.LowerShape.Prepared.{IsSound}
+use Rattle.cjc_shape_proof.specs.WorldProof.Files.{ExportsAreSound}
 use Rattle.cjc_subset.specs.Checks.{check_breaks}
 use Rattle.cjc_theorem.proofs.FairExports.Listed.{names}
 use Rattle.cjc_theorem.proofs.SoundRuns.Placed.{sound_package}
@@ -16,7 +16,7 @@ use Rattle.cjc_vtable.specs.Kept.{ExportsAgree}
 use Rattle.cjc_shape_proof.proofs.ShapeSelected.{judged_checks as tested_checks}
 use Rattle.cjc_shape_proof.proofs.ShapeSound.{is_tested}
 use Rattle.cjc_shape_proof.proofs.ShapeDrafts.{same_spelt}
-use Rattle.cjc_shape_proof.specs.Shape.Whole.Conversion.{IsPackageOf}
+use Rattle.cjc_shape_proof.specs.LowerShape.Whole.Conversion.{IsPackageOf}
 use Rattle.cjc_world.specs.Files.{Files}
 use Rattle.cjc_shape_proof.specs.Written.Converted.{ExportsArePlain, IsConverted}
 use Rattle.cjc_shape_proof.proofs.CheckProofLimits.{after_first, before_second}

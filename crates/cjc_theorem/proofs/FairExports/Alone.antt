@@ -3,7 +3,7 @@
 -- and the same classes stand above them.
 use Rattle.std.proofs.Common.{◌≡◌, ℕ, ◌+◌, refl, sym, ap, ◌∙◌, arith, true, List, [], ◌∷◌}
 use Rattle.std.specs.Prelude.{Option, Some, None, slice_get}
-use Rattle.cjc_subset.specs.ExportFile.declared.tree.ExportClass.{ExportClass}
+use Rattle.cjc_world.specs.ExportFile.declared.tree.ExportClass.{ExportClass}
 use Rattle.cjc_theorem.specs.FairExports.Fair.{world_of}
 use Rattle.cjc_theorem.proofs.FairWriting.Worlds.{numbered_at, numbered_some}
 use Rattle.cjc_token_proof.proofs.WorldProofRules.{listed_abroad}

@@ -15,9 +15,9 @@ use Rattle.cjc_bytes.proofs.Lists.{name_is, none_left, none_right, never_none}
 use Rattle.cjc_bytes.proofs.Bools.{both_front, both_back, not_false}
 use Rattle.cjc_bytes.proofs.BrokenRules.{not_broken, each_at}
 use Rattle.cjc_code.specs.declared.method_code.MethodCode.{MethodCode}
-use Rattle.cjc_subset.specs.ExportFile.declared.tree.ExportClass.{ExportClass}
-use Rattle.cjc_subset.specs.ExportFile.declared.tree.ExportMethod.{ExportMethod}
-use Rattle.cjc_subset.specs.ExportFile.declared.tree.ExportTree.{ExportTree}
+use Rattle.cjc_world.specs.ExportFile.declared.tree.ExportClass.{ExportClass}
+use Rattle.cjc_world.specs.ExportFile.declared.tree.ExportMethod.{ExportMethod}
+use Rattle.cjc_world.specs.ExportFile.declared.tree.ExportTree.{ExportTree}
 use Rattle.cjc_shape_proof.specs.Written.Converted.{ExportsArePlain}
 use Rattle.cjc_subset.specs.Checks.{check_breaks, list_breaks}
 use Rattle.cjc_subset.specs.Exports.{export_breaks, export_file_of, is_class_name, is_name, is_of_objects}

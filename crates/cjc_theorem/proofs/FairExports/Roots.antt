@@ -10,11 +10,11 @@ use Rattle.cjc_bytes.specs.Descriptor.{IsClassName}
 use Rattle.cjc_bytes.proofs.Lists.{name_is, bytes_true}
 use Rattle.cjc_bytes.proofs.Bools.{both_front, both_back}
 use Rattle.cjc_world.proofs.ExportFileRooted.{has_root}
-use Rattle.cjc_subset.specs.ExportFile.declared.tree.ExportClass.{ExportClass}
-use Rattle.cjc_subset.specs.ExportFile.declared.tree.ExportTree.{ExportTree}
+use Rattle.cjc_world.specs.ExportFile.declared.tree.ExportClass.{ExportClass}
+use Rattle.cjc_world.specs.ExportFile.declared.tree.ExportTree.{ExportTree}
 use Rattle.cjc_theorem.proofs.FairExports.Alone.{acyclic, found}
 use Rattle.cjc_token_proof.proofs.WorldProofRules.{only_object, super_class}
-use Rattle.cjc_token_proof.specs.WorldProof.Files.{ExportsAreSound}
+use Rattle.cjc_shape_proof.specs.WorldProof.Files.{ExportsAreSound}
 use Rattle.cjc_subset.specs.Members.{imports}
 use Rattle.cjc_token_proof.proofs.TablesLaws.Clean.{language}
 use Rattle.cjc_token_proof.proofs.TablesLaws.Filed.{has-back, has-front}

@@ -8,8 +8,8 @@ use Rattle.cjc_bytes.specs.AccessFlags.{is_interface}
 use Rattle.cjc_bytes.proofs.Bools.{both_front, both_back}
 use Rattle.cjc_bytes.proofs.Numbers.{like_number}
 use Rattle.cjc_bytes.proofs.Plain.{no_both}
-use Rattle.cjc_subset.specs.ExportFile.declared.tree.ExportClass.{ExportClass}
-use Rattle.cjc_subset.specs.ExportFile.declared.tree.ExportTree.{ExportTree}
+use Rattle.cjc_world.specs.ExportFile.declared.tree.ExportClass.{ExportClass}
+use Rattle.cjc_world.specs.ExportFile.declared.tree.ExportTree.{ExportTree}
 use Rattle.cjc_theorem.specs.FairExports.Fair.{ExportsAreFair, world_of}
 use Rattle.cjc_subset.specs.Members.{imports}
 use Rattle.cjc_tokens.specs.Members.{In, all_methods, first_of, is_virtual, later, same, signature_of}

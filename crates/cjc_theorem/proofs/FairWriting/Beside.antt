@@ -5,12 +5,12 @@ use Rattle.std.proofs.Common.{⊎_elim}
 use Rattle.std.specs.Prelude.{◌⊎◌, Some, slice_get}
 use Rattle.cjc_bytes.specs.AccessFlags.{is_interface}
 use Rattle.cjc_bytes.proofs.Plain.{no_both}
-use Rattle.cjc_subset.specs.ClassFile.declared.tree.ClassTree.{ClassTree}
+use Rattle.cjc_code.specs.ClassFile.declared.tree.ClassTree.{ClassTree}
 use Rattle.cjc_components.specs.ExportFile.{export_class, export_of}
 use Rattle.cjc_components.specs.Exports.{exported_classes}
 use Rattle.cjc_components.specs.Package.{Package, world}
-use Rattle.cjc_subset.specs.ExportFile.declared.tree.ExportClass.{ExportClass}
-use Rattle.cjc_subset.specs.ExportFile.declared.tree.ExportTree.{ExportTree}
+use Rattle.cjc_world.specs.ExportFile.declared.tree.ExportClass.{ExportClass}
+use Rattle.cjc_world.specs.ExportFile.declared.tree.ExportTree.{ExportTree}
 use Rattle.cjc_shape_proof.proofs.ExportedOwn.{own_class}
 use Rattle.cjc_subset.specs.Members.{imports}
 use Rattle.cjc_token_proof.proofs.TablesLaws.Clean.{own_name}
@@ -20,7 +20,7 @@ use Rattle.cjc_tokens.specs.Members.{In, all_methods}
 use Rattle.cjc_world.specs.Upwards.{Below, IsOrdered, OnLine, here, up}
 use Rattle.cjc_world.proofs.Cycles.{class_named-name}
 use Rattle.cjc_world.proofs.UpwardLaws.Lines.{above_on, line_begins, listed_line, same_class}
-use Rattle.cjc_token_proof.specs.WorldProof.Files.{IsImportedClass}
+use Rattle.cjc_shape_proof.specs.WorldProof.Files.{IsImportedClass}
 use Rattle.cjc_vtable.proofs.Filed.{Has, IsFiled, at_front, behind, filed, get-has, has-get, in_class_file}
 use Rattle.cjc_vtable.proofs.Filed.{in_export_file, of-imports, has-either}
 use Rattle.cjc_vtable.proofs.Given.{In-split}

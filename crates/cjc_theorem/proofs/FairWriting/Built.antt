@@ -2,11 +2,11 @@
 -- fewer.
 use Rattle.std.proofs.Common.{◌≡◌, ℕ, sym, subst, List, ◌∷◌, ◌++◌, ⊎_elim}
 use Rattle.cjc_components.specs.ExportFile.{export_of}
-use Rattle.cjc_components.specs.List.Listed.{ListTree}
+use Rattle.cjc_token_proof.specs.List.Listed.{ListTree}
 use Rattle.cjc_components.specs.Package.{Package, world}
-use Rattle.cjc_subset.specs.ExportFile.declared.tree.ExportTree.{ExportTree}
-use Rattle.cjc_shape_proof.specs.Judge.Rules.{settings_of}
-use Rattle.cjc_shape_proof.specs.Judge.declared.judged.Judged.{Judged}
+use Rattle.cjc_world.specs.ExportFile.declared.tree.ExportTree.{ExportTree}
+use Rattle.cjc_shape_proof.specs.LowerJudge.Rules.{settings_of}
+use Rattle.cjc_shape_proof.specs.LowerJudge.declared.judged.Judged.{Judged}
 use Rattle.cjc_shape_proof.proofs.WrittenLaws.Files.{files_sound, own_unbroken}
 use Rattle.cjc_shape_proof.proofs.WrittenLaws.Worlds.{own_ordered}
 use Rattle.cjc_shape_proof.specs.Written.Converted.{IsConverted}

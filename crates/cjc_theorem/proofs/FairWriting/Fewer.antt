@@ -2,8 +2,8 @@
 -- all.
 use Rattle.std.proofs.Common.{◌≡◌, ℕ, sym, ap, subst, ◌∙◌, List, [], ◌∷◌, ◌++◌, map, ⊎_elim}
 use Rattle.std.specs.Prelude.{Some}
-use Rattle.cjc_subset.specs.ExportFile.declared.tree.ExportClass.{ExportClass}
-use Rattle.cjc_subset.specs.ExportFile.declared.tree.ExportTree.{ExportTree}
+use Rattle.cjc_world.specs.ExportFile.declared.tree.ExportClass.{ExportClass}
+use Rattle.cjc_world.specs.ExportFile.declared.tree.ExportTree.{ExportTree}
 use Rattle.cjc_subset.specs.Members.{imports}
 use Rattle.cjc_theorem.proofs.AlikeLaws.VirtualCalls.Chosen.{has_methods}
 use Rattle.cjc_theorem.proofs.FairWriting.Worlds.{finds, found}

@@ -3,8 +3,8 @@ use Rattle.std.proofs.Common.{◌≡◌, ℕ, refl, sym, ap, subst, ◌∙◌, B
 use Rattle.std.proofs.Common.{⊎_elim}
 use Rattle.std.specs.Prelude.{◌⊎◌, ◌||◌, Some, None, if◌then◌else◌}
 use Rattle.std.specs.Str.{bytes_eq}
-use Rattle.cjc_subset.specs.ExportFile.Supers.{is_one_of}
-use Rattle.cjc_vtable.specs.ClassOrder.Supers.Supers.{each_once, interfaces, name_of, names_upwards, superclasses}
+use Rattle.cjc_world.specs.ExportFile.Supers.{is_one_of}
+use Rattle.cjc_token_proof.specs.ClassOrder.Supers.Supers.{each_once, interfaces, name_of, names_upwards, superclasses}
 use Rattle.cjc_world.specs.Upwards.{Below, OnLine, here, up}
 use Rattle.cjc_world.proofs.UpwardLaws.Lines.{listed_below, no_list}
 use Rattle.cjc_vtable.proofs.Filed.{Has, at_front, behind, has-either}

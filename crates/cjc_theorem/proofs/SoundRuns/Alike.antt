@@ -6,30 +6,31 @@ use Rattle.std.proofs.lemmas.Option.{slice_get-map}
 use Rattle.cjc_jvm_semantics.specs.ByName.{run as run_by_name}
 use Rattle.cjc_jvm_semantics.specs.Linked.{Method}
 use Rattle.cjc_jvm_semantics.specs.OnePackage.{is_initialiser, method_at, method_by}
-use Rattle.cjc_ncode.specs.CardSemantics.Bytecode.Runs.{Agree}
+use Rattle.cjc_token_proof.specs.CardSemantics.Bytecode.Runs.{Agree}
 use Rattle.cjc_bytes.specs.Breaks.{Break}
 use Rattle.cjc_bytes.specs.declared.fault.MemberId.{MemberId}
 use Rattle.cjc_token_proof.proofs.WorldProofOwn.{mapped_at}
 use Rattle.cjc_code.proofs.ClassFileFitting.{spelt_fits}
-use Rattle.cjc_subset.specs.ClassFile.Code.{CodeTree}
-use Rattle.cjc_subset.specs.ClassFile.Fits.{ClassFits}
-use Rattle.cjc_subset.specs.ClassFile.declared.tree.ClassTree.{ClassTree}
-use Rattle.cjc_subset.specs.ClassFile.declared.tree.MethodTree.{MethodTree}
-use Rattle.cjc_components.specs.Clinit.Image.{IsImage}
-use Rattle.cjc_components.specs.Clinit.Rules.{BreaksImage}
+use Rattle.cjc_code.specs.ClassFile.Code.{CodeTree}
+use Rattle.cjc_code.specs.ClassFile.Fits.{ClassFits}
+use Rattle.cjc_code.specs.ClassFile.declared.tree.ClassTree.{ClassTree}
+use Rattle.cjc_code.specs.ClassFile.declared.tree.MethodTree.{MethodTree}
+use Rattle.cjc_token_proof.specs.Clinit.Image.{IsImage}
+use Rattle.cjc_token_proof.specs.Clinit.Rules.{BreaksImage}
 use Rattle.cjc_code.specs.PackageCodes.{all_codes}
 use Rattle.cjc_components.specs.Package.{LaidMethod, Package, pool}
-use Rattle.cjc_tokens.specs.Fixpoint.Tables.{HasRow}
-use Rattle.cjc_shape_proof.specs.Judge.Rules.{settings_of}
-use Rattle.cjc_shape_proof.specs.Judge.Spelt.{IsRead}
-use Rattle.cjc_shape_proof.specs.Judge.declared.judged.Judged.{Judged}
-use Rattle.cjc_components.specs.List.Listed.{ListTree}
-use Rattle.cjc_shape_proof.specs.Methods.Ready.{AreReady}
-use Rattle.cjc_narrow.specs.Rows.Package.{code_of, flags_of, read_of as body_read, run as narrow_run, tree_of}
-use Rattle.cjc_narrow.specs.Pairs.Roles.{with_pairs}
-use Rattle.cjc_narrow.specs.Written.Rows.{has_rows}
-use Rattle.cjc_narrow.specs.Rows.Resolved.{argument_words, method_found, resolution}
-use Rattle.cjc_narrow.specs.Rows.Selected.{near_fields}
+use Rattle.cjc_vtable.specs.Fixpoint.Tables.{HasRow}
+use Rattle.cjc_shape_proof.specs.LowerJudge.Rules.{settings_of}
+use Rattle.cjc_shape_proof.specs.LowerJudge.Spelt.{IsRead}
+use Rattle.cjc_shape_proof.specs.LowerJudge.declared.judged.Judged.{Judged}
+use Rattle.cjc_token_proof.specs.List.Listed.{ListTree}
+use Rattle.cjc_shape_proof.specs.LowerMethods.Ready.{AreReady}
+use Rattle.cjc_token_proof.specs.Narrow.Rows.Package.{code_of, flags_of, read_of as body_read, run as narrow_run}
+use Rattle.cjc_token_proof.specs.Narrow.Rows.Package.{tree_of}
+use Rattle.cjc_token_proof.specs.Narrow.Pairs.Roles.{with_pairs}
+use Rattle.cjc_token_proof.specs.Narrow.Written.Rows.{has_rows}
+use Rattle.cjc_token_proof.specs.Narrow.Rows.Resolved.{argument_words, method_found, resolution}
+use Rattle.cjc_token_proof.specs.Narrow.Rows.Selected.{near_fields}
 use Rattle.cjc_shape_proof.proofs.FindsLaws.Descs.{read_of}
 use Rattle.cjc_shape_proof.specs.Whole.{AreTabled, IsWhole}
 use Rattle.cjc_narrow_proof.specs.Laws.Left.{HasLeast}
@@ -40,11 +41,11 @@ use Rattle.cjc_ncode.specs.Written.{narrow_method}
 use Rattle.cjc_ncode.specs.declared.narrow.NMethod.{NMethod}
 use Rattle.cjc_shape_proof.proofs.ShapeSound.{are_ready, listed, no_image_break, world_unbroken}
 use Rattle.cjc_subset.specs.Ints.{any_works_on_int}
-use Rattle.cjc_shape_proof.specs.Shape.Prepared.{IsSound}
-use Rattle.cjc_narrow_proof.specs.Intervals.Frames.{RangeState}
-use Rattle.cjc_narrow_proof.specs.Intervals.Tables.{IsLeastRanges}
-use Rattle.cjc_jvm_semantics.specs.Script.declared.script.Script.{Script}
-use Rattle.cjc_token_proof.specs.WorldProof.Files.{ExportsAreSound}
+use Rattle.cjc_shape_proof.specs.LowerShape.Prepared.{IsSound}
+use Rattle.cjc_shape_proof.specs.Intervals.Frames.{RangeState}
+use Rattle.cjc_shape_proof.specs.Intervals.Tables.{IsLeastRanges}
+use Rattle.cjc_token_proof.specs.Script.declared.script.Script.{Script}
+use Rattle.cjc_shape_proof.specs.WorldProof.Files.{ExportsAreSound}
 use Rattle.cjc_narrow_proof.proofs.SelectedLaws.SomeInsns.{some_insns}
 use Rattle.cjc_theorem.proofs.SoundRuns.Coded.{IsCoded}
 use Rattle.cjc_theorem.proofs.SoundRuns.Laid.{IsOfFile, bare_code, id_of, none_among, of_file, told_among}
@@ -53,10 +54,10 @@ use Rattle.cjc_theorem.proofs.SoundRuns.Placed.{plain_in_order, stands}
 use Rattle.cjc_theorem.proofs.SoundRuns.Ranges.{ranges_pass}
 use Rattle.cjc_theorem.proofs.SoundRuns.Read.{read_files, whole_is}
 use Rattle.cjc_theorem.proofs.SoundRuns.Tabled.{has_least, no_first, only_coded, tabled_code, tables, types_are}
-use Rattle.cjc_narrow_proof.specs.Types.declared.state.State.{State}
-use Rattle.cjc_narrow_proof.specs.Types.Flow.{Body}
+use Rattle.cjc_token_proof.specs.Types.declared.state.State.{State}
+use Rattle.cjc_token_proof.specs.Types.Flow.{Body}
 use Rattle.cjc_shape_proof.proofs.ShapeDrafts.{rows, rows_agree, rows_are, same_members, same_spelt}
-use Rattle.cjc_shape_proof.specs.Shape.Whole.Conversion.{IsDraft, IsSelected}
+use Rattle.cjc_shape_proof.specs.LowerShape.Whole.Conversion.{IsDraft, IsSelected}
 use Rattle.cjc_world.specs.Classes.{all_classes}
 use Rattle.cjc_world.specs.Files.{Files}
 use Rattle.cjc_world.specs.Order.{method_order}

@@ -10,23 +10,23 @@ use Rattle.cjc_jvm_semantics.specs.OnePackage.{method_at, method_by, method_in}
 use Rattle.cjc_bytes.specs.declared.fault.MemberId.{MemberId}
 use Rattle.cjc_bytes.proofs.Lists.{name_is}
 use Rattle.cjc_bytes.proofs.Plain.{same_some}
-use Rattle.cjc_vtable.specs.ClassOrder.Classes.Numbers.{class_count}
-use Rattle.cjc_subset.specs.ClassFile.Code.{CodeTree}
-use Rattle.cjc_subset.specs.ClassFile.declared.tree.ClassTree.{ClassTree}
-use Rattle.cjc_subset.specs.ClassFile.declared.tree.MethodTree.{MethodTree}
+use Rattle.cjc_token_proof.specs.ClassOrder.Classes.Numbers.{class_count}
+use Rattle.cjc_code.specs.ClassFile.Code.{CodeTree}
+use Rattle.cjc_code.specs.ClassFile.declared.tree.ClassTree.{ClassTree}
+use Rattle.cjc_code.specs.ClassFile.declared.tree.MethodTree.{MethodTree}
 use Rattle.cjc_code.specs.declared.insn.JInsn.{JInsn}
 use Rattle.cjc_components.specs.Package.{LaidMethod}
 use Rattle.cjc_components.specs.Written.{code_by}
-use Rattle.cjc_narrow.specs.Keys.Working.Same.{same_member-Decides}
-use Rattle.cjc_narrow.specs.Rows.Package.{code_of, flags_of, read_of, tree_of}
-use Rattle.cjc_narrow.specs.Pairs.Roles.{with_pairs}
-use Rattle.cjc_narrow.specs.Rows.Resolved.{argument_words, method_found, resolution}
+use Rattle.cjc_token_proof.specs.Narrow.Keys.Working.Same.{same_member-Decides}
+use Rattle.cjc_token_proof.specs.Narrow.Rows.Package.{code_of, flags_of, read_of, tree_of}
+use Rattle.cjc_token_proof.specs.Narrow.Pairs.Roles.{with_pairs}
+use Rattle.cjc_token_proof.specs.Narrow.Rows.Resolved.{argument_words, method_found, resolution}
 use Rattle.cjc_narrow_proof.proofs.LawsLaws.Own.{class_by_name, first_here, own_kept}
 use Rattle.cjc_ncode.specs.PoolOrder.{same_member}
 use Rattle.cjc_ncode.specs.Written.{Resolution, narrow_method}
 use Rattle.cjc_ncode.specs.declared.narrow.NMethod.{NMethod}
-use Rattle.cjc_narrow_proof.specs.Types.declared.state.State.{State}
-use Rattle.cjc_shape_proof.specs.Shape.Whole.Conversion.{IsSelected}
+use Rattle.cjc_token_proof.specs.Types.declared.state.State.{State}
+use Rattle.cjc_shape_proof.specs.LowerShape.Whole.Conversion.{IsSelected}
 use Rattle.cjc_world.specs.Classes.{Class, all_classes, class_named, declared, method_of_class}
 use Rattle.cjc_world.specs.Files.{Files}
 use Rattle.cjc_world.specs.Lookup.{is_called}

@@ -1,7 +1,7 @@
 -- The look-ups of narrow code ask for the code of methods of class files alone.
 use Rattle.std.proofs.Common.{◌≡◌, ℕ, refl, ap, ◌∙◌, Bool, true, false, List, [], ◌∷◌}
 use Rattle.std.specs.Prelude.{◌&&◌, Option, Some, None, option_and_then, option_map, if◌then◌else◌}
-use Rattle.cjc_ncode.specs.CardSemantics.Bytecode.Machine.{Nowhere, Within}
+use Rattle.cjc_token_proof.specs.CardSemantics.Bytecode.Machine.{Nowhere, Within}
 use Rattle.cjc_jvm_semantics.specs.Linked.{Abroad, Callee, Inside, Method}
 use Rattle.cjc_jvm_semantics.specs.OnePackage.{ResolvedMember, callee_at, entry_in, entry_named, first_imported}
 use Rattle.cjc_jvm_semantics.specs.OnePackage.{first_super, interface_callee, is_initialiser, is_sendable, made_of}
@@ -9,13 +9,15 @@ use Rattle.cjc_jvm_semantics.specs.OnePackage.{method_at, method_hit, of_class, 
 use Rattle.cjc_jvm_semantics.specs.OnePackage.{sent_named}
 use Rattle.cjc_bytes.specs.AccessFlags.{is_static}
 use Rattle.cjc_bytes.specs.declared.fault.MemberId.{MemberId}
-use Rattle.cjc_narrow.specs.Rows.Package.{above, class_of_callee, direct, fault_name, first_memory, name_there, named}
-use Rattle.cjc_narrow.specs.Rows.Package.{on_class, plain_import, reached, reached_by, selected_on, start_of}
-use Rattle.cjc_narrow.specs.Rows.Package.{throwable_import, words}
+use Rattle.cjc_token_proof.specs.Narrow.Rows.Package.{above, class_of_callee, direct, fault_name, first_memory}
+use Rattle.cjc_token_proof.specs.Narrow.Rows.Package.{name_there, named}
+use Rattle.cjc_token_proof.specs.Narrow.Rows.Package.{on_class, plain_import, reached, reached_by, selected_on}
+use Rattle.cjc_token_proof.specs.Narrow.Rows.Package.{start_of}
+use Rattle.cjc_token_proof.specs.Narrow.Rows.Package.{throwable_import, words}
 use Rattle.cjc_ncode.specs.ByLabel.{Fixed, OnInterface, OnObject, OnSuper}
 use Rattle.cjc_ncode.specs.ByLabel as labels
 use Rattle.cjc_ncode.specs.declared.narrow.NMethod.{NMethod}
-use Rattle.cjc_jvm_semantics.specs.Script.Sorts.{Shape, shape_name}
+use Rattle.cjc_token_proof.specs.Script.Sorts.{Shape, shape_name}
 use Rattle.cjc_world.specs.Classes.{Class, all_classes, class_named}
 use Rattle.cjc_world.specs.Files.{Files}
 use Rattle.cjc_world.specs.Supertypes.{line}

@@ -6,7 +6,7 @@ use Rattle.std.proofs.lemmas.Bool.{eqb-true}
 use Rattle.cjc_bytes.specs.Descriptor.{IsClassName, inside, last, more, simple}
 use Rattle.cjc_bytes.proofs.Bools.{both_front, both_back}
 use Rattle.cjc_bytes.specs.Descriptor as descriptor
-use Rattle.cjc_components.specs.List.Grammar.{is_name, is_name_byte, is_name_part}
+use Rattle.cjc_token_proof.specs.List.Grammar.{is_name, is_name_byte, is_name_part}
 
 -- a byte of such a name is one of names
 byte_is : (b : ℕ) → is_name_byte b ≡ true → descriptor.is_name_byte b ≡ true

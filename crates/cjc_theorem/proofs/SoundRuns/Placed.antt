@@ -12,18 +12,18 @@ use Rattle.cjc_bytes.specs.Descriptor.{IsClassName, IsName, inside, last, more, 
 use Rattle.cjc_bytes.proofs.Bools.{or_right}
 use Rattle.cjc_bytes.proofs.Numbers.{first_byte}
 use Rattle.cjc_token_proof.proofs.WorldProofOwn.{mapped_at, method_is}
-use Rattle.cjc_subset.specs.ClassFile.Code.{CodeTree}
-use Rattle.cjc_subset.specs.ClassFile.declared.tree.ClassTree.{ClassTree}
-use Rattle.cjc_subset.specs.ClassFile.declared.tree.MethodTree.{MethodTree}
-use Rattle.cjc_subset.specs.ExportFile.declared.tree.ExportClass.{ExportClass}
-use Rattle.cjc_shape_proof.specs.Judge.Rules.{settings_of}
-use Rattle.cjc_shape_proof.specs.Judge.Spelt.{IsRead, exports_of}
-use Rattle.cjc_shape_proof.specs.Judge.declared.judged.Judged.{Judged}
-use Rattle.cjc_components.specs.List.Listed.{ListTree}
+use Rattle.cjc_code.specs.ClassFile.Code.{CodeTree}
+use Rattle.cjc_code.specs.ClassFile.declared.tree.ClassTree.{ClassTree}
+use Rattle.cjc_code.specs.ClassFile.declared.tree.MethodTree.{MethodTree}
+use Rattle.cjc_world.specs.ExportFile.declared.tree.ExportClass.{ExportClass}
+use Rattle.cjc_shape_proof.specs.LowerJudge.Rules.{settings_of}
+use Rattle.cjc_shape_proof.specs.LowerJudge.Spelt.{IsRead, exports_of}
+use Rattle.cjc_shape_proof.specs.LowerJudge.declared.judged.Judged.{Judged}
+use Rattle.cjc_token_proof.specs.List.Listed.{ListTree}
 use Rattle.cjc_narrow_proof.proofs.LawsLaws.Own.{class_by_name}
 use Rattle.cjc_shape_proof.proofs.ShapeSelected.{judged_checks}
 use Rattle.cjc_shape_proof.proofs.ShapeSound.{is_tested, listed, world_unbroken}
-use Rattle.cjc_shape_proof.specs.Shape.Prepared.{IsSound}
+use Rattle.cjc_shape_proof.specs.LowerShape.Prepared.{IsSound}
 use Rattle.cjc_token_proof.proofs.WorldProofRules.{method_kept}
 use Rattle.cjc_theorem.proofs.SoundRuns.Read.{package_is, read_files}
 use Rattle.cjc_subset.specs.Flags.{is_unfit_method_kind}

@@ -3,30 +3,30 @@ use Rattle.std.proofs.Common.{◌≡◌, ℕ, refl, subst, List, inr}
 use Rattle.std.specs.Prelude.{Option, Some, None, slice_get}
 use Rattle.cjc_bytes.specs.Breaks.{Break}
 use Rattle.cjc_bytes.specs.declared.breaks.BrokenAt.{BrokenAt}
-use Rattle.cjc_subset.specs.ClassFile.Code.{CodeTree}
-use Rattle.cjc_subset.specs.ClassFile.declared.tree.ClassTree.{ClassTree}
-use Rattle.cjc_subset.specs.ClassFile.declared.tree.MethodTree.{MethodTree}
+use Rattle.cjc_code.specs.ClassFile.Code.{CodeTree}
+use Rattle.cjc_code.specs.ClassFile.declared.tree.ClassTree.{ClassTree}
+use Rattle.cjc_code.specs.ClassFile.declared.tree.MethodTree.{MethodTree}
 use Rattle.cjc_code.specs.PackageCodes.{all_codes}
 use Rattle.cjc_code.specs.declared.method_code.MethodCode.{MethodCode}
-use Rattle.cjc_shape_proof.specs.Judge.declared.groups.Group.TheVariants as groups
-use Rattle.cjc_shape_proof.specs.Judge.declared.judged.Judged.{Judged}
-use Rattle.cjc_shape_proof.specs.Judge.Rules.{BreaksAnyRange, files_spelt, method_break, of_group}
-use Rattle.cjc_shape_proof.specs.Judge.Spelt.{FileTree, classes_of}
+use Rattle.cjc_shape_proof.specs.LowerJudge.declared.groups.Group.TheVariants as groups
+use Rattle.cjc_shape_proof.specs.LowerJudge.declared.judged.Judged.{Judged}
+use Rattle.cjc_shape_proof.specs.LowerJudge.Rules.{BreaksAnyRange, files_spelt, method_break, of_group}
+use Rattle.cjc_shape_proof.specs.LowerJudge.Spelt.{FileTree, classes_of}
 use Rattle.cjc_shape_proof.proofs.ShapeSelected.{is_world, same_codes, same_world}
-use Rattle.cjc_components.specs.List.Listed.{ListTree}
-use Rattle.cjc_narrow.specs.Rows.Resolved.{constant_named}
-use Rattle.cjc_shape_proof.specs.LowerFlow.Tests.Answers.{IsFirstBroken}
-use Rattle.cjc_shape_proof.specs.LowerFlow.Tests.Working.Search.{first_from}
-use Rattle.cjc_shape_proof.specs.LowerFlow.declared.tests.passing.Tested.TheVariants as tests
+use Rattle.cjc_token_proof.specs.List.Listed.{ListTree}
+use Rattle.cjc_token_proof.specs.Narrow.Rows.Resolved.{constant_named}
+use Rattle.cjc_shape_proof.specs.Flow.Tests.Answers.{IsFirstBroken}
+use Rattle.cjc_shape_proof.specs.Flow.Tests.Working.Search.{first_from}
+use Rattle.cjc_shape_proof.specs.Flow.declared.tests.passing.Tested.TheVariants as tests
 use Rattle.cjc_shape_proof.proofs.FlowFirst.{all_pass, first_broken, first_of_all, nothing_broken}
-use Rattle.cjc_shape_proof.specs.Shape.Judged.Tested.{IsTested}
-use Rattle.cjc_shape_proof.specs.Shape.Prepared.{IsSound, tested}
-use Rattle.cjc_narrow_proof.specs.Intervals.Frames.{RangeState}
-use Rattle.cjc_narrow_proof.specs.Intervals.Tables.{IsLeastRanges, Passes}
-use Rattle.cjc_narrow_proof.specs.Types.declared.state.State.{State}
-use Rattle.cjc_narrow_proof.specs.Types.declared.table.TypeTable.{TypeTable}
-use Rattle.cjc_narrow_proof.specs.Types.Flow.{Body, body_of}
-use Rattle.cjc_narrow_proof.specs.Types.Tables.{IsMethodOf, IsTypeTable, rows_of}
+use Rattle.cjc_shape_proof.specs.LowerShape.Judged.Tested.{IsTested}
+use Rattle.cjc_shape_proof.specs.LowerShape.Prepared.{IsSound, tested}
+use Rattle.cjc_shape_proof.specs.Intervals.Frames.{RangeState}
+use Rattle.cjc_shape_proof.specs.Intervals.Tables.{IsLeastRanges, Passes}
+use Rattle.cjc_token_proof.specs.Types.declared.state.State.{State}
+use Rattle.cjc_token_proof.specs.Types.declared.table.TypeTable.{TypeTable}
+use Rattle.cjc_token_proof.specs.Types.Flow.{Body, body_of}
+use Rattle.cjc_token_proof.specs.Types.Tables.{IsMethodOf, IsTypeTable, rows_of}
 use Rattle.cjc_world.specs.Classes.{all_classes}
 
 module _ (list : ListTree) (files : List (List ℕ)) (judged : Judged) (is : IsSound list files judged) where

@@ -5,21 +5,21 @@ use Rattle.std.specs.List.{AllByRecursion}
 use Rattle.cjc_bytes.specs.Descriptor.{IsClassName}
 use Rattle.cjc_bytes.specs.Format.{FileSpells}
 use Rattle.cjc_bytes.specs.declared.settings.FileLine.{FileLine}
-use Rattle.cjc_subset.specs.ClassFile.ClassFile.{class_file}
-use Rattle.cjc_subset.specs.ClassFile.declared.tree.ClassTree.{ClassTree}
-use Rattle.cjc_shape_proof.specs.Judge.declared.judged.Judged.{Judged}
-use Rattle.cjc_shape_proof.specs.Judge.Rules.{settings_of}
-use Rattle.cjc_shape_proof.specs.Judge.Spelt.{FileTree, IsRead, classes_of, of_class, of_export}
-use Rattle.cjc_shape_proof.specs.Judge.Trees.{AllSpelt}
-use Rattle.cjc_shape_proof.specs.Shape.Judged.Tested.{AreFiles}
-use Rattle.cjc_components.specs.List.Listed.{ListTree}
+use Rattle.cjc_code.specs.ClassFile.ClassFile.{class_file}
+use Rattle.cjc_code.specs.ClassFile.declared.tree.ClassTree.{ClassTree}
+use Rattle.cjc_shape_proof.specs.LowerJudge.declared.judged.Judged.{Judged}
+use Rattle.cjc_shape_proof.specs.LowerJudge.Rules.{settings_of}
+use Rattle.cjc_shape_proof.specs.LowerJudge.Spelt.{FileTree, IsRead, classes_of, of_class, of_export}
+use Rattle.cjc_shape_proof.specs.LowerJudge.Trees.{AllSpelt}
+use Rattle.cjc_shape_proof.specs.LowerShape.Judged.Tested.{AreFiles}
+use Rattle.cjc_token_proof.specs.List.Listed.{ListTree}
 use Rattle.cjc_shape_proof.specs.Whole.{AreTabled, IsWhole}
 use Rattle.cjc_narrow_proof.specs.Runs.Tables.{Tables}
-use Rattle.cjc_shape_proof.specs.Shape.Prepared.{IsSound}
+use Rattle.cjc_shape_proof.specs.LowerShape.Prepared.{IsSound}
 use Rattle.cjc_shape_proof.proofs.ShapeSelected.{judged_writable}
 use Rattle.cjc_shape_proof.proofs.ShapeSound.{is_tested, is_unbroken}
 use Rattle.cjc_subset.specs.Ints.{any_works_on_int}
-use Rattle.cjc_token_proof.specs.WorldProof.Files.{AreReadFiles, ExportsAreSound}
+use Rattle.cjc_shape_proof.specs.WorldProof.Files.{AreReadFiles, ExportsAreSound}
 use Rattle.cjc_theorem.proofs.SoundRuns.Names.{class_name}
 use Rattle.cjc_world.specs.Files.{Files}
 

@@ -18,30 +18,30 @@ use Rattle.cjc_bytes.proofs.Gets.{set_length}
 use Rattle.cjc_bytes.proofs.Options.{option_taken}
 use Rattle.cjc_bytes.proofs.Quantified.{all_both}
 use Rattle.cjc_jvm_semantics.specs.OnePackage as by_name
-use Rattle.cjc_subset.specs.ClassFile.declared.tree.ClassTree.{ClassTree}
-use Rattle.cjc_components.specs.Clinit.declared.stage.Held.{Held}
-use Rattle.cjc_components.specs.Clinit.declared.stage.Held.TheVariants as held
-use Rattle.cjc_components.specs.Clinit.declared.stage.Start.{Start}
-use Rattle.cjc_components.specs.Clinit.declared.stage.Start.TheVariants as starts
-use Rattle.cjc_components.specs.Clinit.Fields.{ANull, ANumber, AnArray, Contents, array_desc, fits, fits_kind}
-use Rattle.cjc_components.specs.Clinit.Fields.{number_kind, takes}
-use Rattle.cjc_components.specs.Clinit.Image.{AreInitialised, array_in, arrays_of}
-use Rattle.cjc_components.specs.Clinit.Image.{own_field}
-use Rattle.cjc_components.specs.Clinit.Image as images
-use Rattle.cjc_components.specs.Clinit.Initialiser.{Initialises, Makes, Put, Stores, element_kind}
-use Rattle.cjc_components.specs.Clinit.Initialiser.{of_array, of_null, of_number, open_place}
-use Rattle.cjc_components.specs.Clinit.Initialiser as init
+use Rattle.cjc_code.specs.ClassFile.declared.tree.ClassTree.{ClassTree}
+use Rattle.cjc_token_proof.specs.Clinit.declared.stage.Held.{Held}
+use Rattle.cjc_token_proof.specs.Clinit.declared.stage.Held.TheVariants as held
+use Rattle.cjc_token_proof.specs.Clinit.declared.stage.Start.{Start}
+use Rattle.cjc_token_proof.specs.Clinit.declared.stage.Start.TheVariants as starts
+use Rattle.cjc_token_proof.specs.Clinit.Fields.{ANull, ANumber, AnArray, Contents, array_desc, fits, fits_kind}
+use Rattle.cjc_token_proof.specs.Clinit.Fields.{number_kind, takes}
+use Rattle.cjc_token_proof.specs.Clinit.Image.{AreInitialised, array_in, arrays_of}
+use Rattle.cjc_token_proof.specs.Clinit.Image.{own_field}
+use Rattle.cjc_token_proof.specs.Clinit.Image as images
+use Rattle.cjc_token_proof.specs.Clinit.Initialiser.{Initialises, Makes, Put, Stores, element_kind}
+use Rattle.cjc_token_proof.specs.Clinit.Initialiser.{of_array, of_null, of_number, open_place}
+use Rattle.cjc_token_proof.specs.Clinit.Initialiser as init
 use Rattle.cjc_code.specs.declared.insn.JOp.{JOp}
 use Rattle.cjc_code.specs.declared.method_code.MethodCode.{MethodCode}
-use Rattle.cjc_narrow.specs.Rows.Package.{element_of_kind, named}
+use Rattle.cjc_token_proof.specs.Narrow.Rows.Package.{element_of_kind, named}
 use Rattle.cjc_ncode.specs.ByLabel.{Named}
-use Rattle.cjc_narrow_proof.specs.Range.Span.{Holds}
-use Rattle.cjc_jvm_semantics.specs.Script.declared.value.Value.TheVariants.{Num}
-use Rattle.cjc_jvm_semantics.specs.Script.Sorts.{Boolean, Booleans, Byte, Bytes, Element, Int, Ints, NoValue, OfNumbers}
-use Rattle.cjc_jvm_semantics.specs.Script.Sorts.{Reference}
-use Rattle.cjc_jvm_semantics.specs.Script.Sorts.{Short, Shorts, Sort, array_by, array_name, array_of, field_sort}
-use Rattle.cjc_jvm_semantics.specs.Script.Sorts.{reference_to}
-use Rattle.cjc_jvm_semantics.specs.Script.Sorts.{sort_by, sort_or_none, zero_of}
+use Rattle.cjc_code.specs.Range.Span.{Holds}
+use Rattle.cjc_token_proof.specs.Script.declared.value.Value.TheVariants.{Num}
+use Rattle.cjc_token_proof.specs.Script.Sorts.{Boolean, Booleans, Byte, Bytes, Element, Int, Ints, NoValue, OfNumbers}
+use Rattle.cjc_token_proof.specs.Script.Sorts.{Reference}
+use Rattle.cjc_token_proof.specs.Script.Sorts.{Short, Shorts, Sort, array_by, array_name, array_of, field_sort}
+use Rattle.cjc_token_proof.specs.Script.Sorts.{reference_to}
+use Rattle.cjc_token_proof.specs.Script.Sorts.{sort_by, sort_or_none, zero_of}
 use Rattle.cjc_narrow_proof.specs.Selection.Relation.{CellFits, Heap, a_boolean, a_byte, a_null, a_short}
 use Rattle.cjc_narrow_proof.specs.Selection.Relation.{an_int, element_range}
 use Rattle.cjc_narrow_proof.specs.Selection.Objects.{has_values}

@@ -8,21 +8,21 @@ use Rattle.std.proofs.lemmas.Option.{slice_get-map}
 use Rattle.cjc_bytes.specs.declared.fault.MemberId.{MemberId}
 use Rattle.cjc_bytes.proofs.Lists.{bytes_true, map_append}
 use Rattle.cjc_bytes.proofs.Bools.{both_back}
-use Rattle.cjc_ncode.specs.CardSemantics.Bytecode.Effects.{Slot}
+use Rattle.cjc_token_proof.specs.CardSemantics.Bytecode.Effects.{Slot}
 use Rattle.cjc_jvm_semantics.specs.OnePackage.{array_place, cell_of, cells, cells_in, is_cell, number_place, or_zero}
 use Rattle.cjc_jvm_semantics.specs.Effects.{is_same_field}
-use Rattle.cjc_subset.specs.ClassFile.declared.tree.ClassTree.{ClassTree}
-use Rattle.cjc_subset.specs.ClassFile.declared.tree.FieldTree.{FieldTree}
-use Rattle.cjc_components.specs.Clinit.Fields.{has_unfit_value}
-use Rattle.cjc_components.specs.Clinit.Image.{IsImage, of_classes}
+use Rattle.cjc_code.specs.ClassFile.declared.tree.ClassTree.{ClassTree}
+use Rattle.cjc_code.specs.ClassFile.declared.tree.FieldTree.{FieldTree}
+use Rattle.cjc_token_proof.specs.Clinit.Fields.{has_unfit_value}
+use Rattle.cjc_token_proof.specs.Clinit.Image.{IsImage, of_classes}
 use Rattle.cjc_code.specs.declared.method_code.MethodCode.{MethodCode}
-use Rattle.cjc_narrow.specs.Rows.Package.{element_of_kind, first_array, first_cell, named}
+use Rattle.cjc_token_proof.specs.Narrow.Rows.Package.{element_of_kind, first_array, first_cell, named}
 use Rattle.cjc_narrow_proof.specs.Runs.Converted.{IsFirst, IsFirstArray}
 use Rattle.cjc_narrow_proof.specs.Runs.Tables.{Tables, look_ups}
 use Rattle.cjc_ncode.specs.ByLabel.{Named}
-use Rattle.cjc_jvm_semantics.specs.Script.declared.value.Value.{Value}
-use Rattle.cjc_jvm_semantics.specs.Script.declared.value.Value.TheVariants.{Num, Obj}
-use Rattle.cjc_jvm_semantics.specs.Script.Sorts.{OfNumbers, Reference, field_sort, shape_name}
+use Rattle.cjc_token_proof.specs.Script.declared.value.Value.{Value}
+use Rattle.cjc_token_proof.specs.Script.declared.value.Value.TheVariants.{Num, Obj}
+use Rattle.cjc_token_proof.specs.Script.Sorts.{OfNumbers, Reference, field_sort, shape_name}
 use Rattle.cjc_narrow_proof.specs.Selection.Relation.{CellFits, Heap, SlotsFit, an_object, no_slots, slot}
 use Rattle.cjc_narrow_proof.specs.Selection.Objects.{has_values}
 use Rattle.cjc_theorem.proofs.WholeRuns.First.{IsArray, initialised_arrays}

@@ -5,14 +5,14 @@ use Rattle.cjc_bytes.specs.declared.fault.MemberId.{MemberId}
 use Rattle.cjc_bytes.specs.declared.settings.Settings.{Settings}
 use Rattle.cjc_jvm_semantics.specs.Linked.{Method}
 use Rattle.cjc_jvm_semantics.specs.OnePackage.{object_fields}
-use Rattle.cjc_subset.specs.ClassFile.Code.{CodeTree}
-use Rattle.cjc_subset.specs.ClassFile.declared.tree.ClassTree.{ClassTree}
-use Rattle.cjc_subset.specs.ClassFile.declared.tree.MethodTree.{MethodTree}
+use Rattle.cjc_code.specs.ClassFile.Code.{CodeTree}
+use Rattle.cjc_code.specs.ClassFile.declared.tree.ClassTree.{ClassTree}
+use Rattle.cjc_code.specs.ClassFile.declared.tree.MethodTree.{MethodTree}
 use Rattle.cjc_code.specs.Decoded.{decoded, insns_of, of_code, of_method}
 use Rattle.cjc_code.specs.declared.insn.JOp.{JOp}
 use Rattle.cjc_code.specs.declared.insn.JOp.TheVariants as jop
 use Rattle.cjc_code.specs.declared.method_code.MethodCode.{MethodCode}
-use Rattle.cjc_tokens.specs.Fixpoint.Tables.{HasRow}
+use Rattle.cjc_vtable.specs.Fixpoint.Tables.{HasRow}
 use Rattle.cjc_shape_proof.specs.Whole.{Accepts, HoldsFor, IsWhole}
 use Rattle.cjc_shape_proof.proofs.FindsLaws.Descs.{read_of}
 use Rattle.cjc_shape_proof.proofs.FindsLaws.Whole.{converted_is, fields_are, interface_is, is_solid, special_is}
@@ -36,14 +36,14 @@ use Rattle.cjc_subset.specs.Types.{is_unsupported_number, names_unsupported}
 use Rattle.cjc_narrow_proof.specs.Tables.Arrays.{arraylength}
 use Rattle.cjc_narrow_proof.specs.Tables.Calls.{count_of}
 use Rattle.cjc_narrow_proof.specs.Tables.Supported as plain
-use Rattle.cjc_narrow.proofs.TypesTyped.{are_frames, are_typed}
-use Rattle.cjc_narrow_proof.specs.Types.declared.cell.Cell.{Cell}
-use Rattle.cjc_narrow_proof.specs.Types.declared.state.State.{State}
-use Rattle.cjc_narrow_proof.specs.Types.Flow.{Body, body_of}
-use Rattle.cjc_narrow_proof.specs.Types.Rules.{accepts, is_of, receiver_class}
-use Rattle.cjc_narrow_proof.specs.Types.Search.{cells_of}
-use Rattle.cjc_narrow_proof.specs.Types.Steps.{operand, receivers, takes}
-use Rattle.cjc_narrow_proof.specs.Types.Tables.{IsMethodOf, rows_of}
+use Rattle.cjc_narrow_proof.proofs.TypesTyped.{are_frames, are_typed}
+use Rattle.cjc_token_proof.specs.Types.declared.cell.Cell.{Cell}
+use Rattle.cjc_token_proof.specs.Types.declared.state.State.{State}
+use Rattle.cjc_token_proof.specs.Types.Flow.{Body, body_of}
+use Rattle.cjc_token_proof.specs.Types.Rules.{accepts, is_of, receiver_class}
+use Rattle.cjc_token_proof.specs.Types.Search.{cells_of}
+use Rattle.cjc_token_proof.specs.Types.Steps.{operand, receivers, takes}
+use Rattle.cjc_token_proof.specs.Types.Tables.{IsMethodOf, rows_of}
 use Rattle.cjc_theorem.proofs.WholeRuns.Objects.{objects_have_values}
 use Rattle.cjc_theorem.proofs.WholeRuns.Operations.{arith_plain, if_plain, load_is, narrow_plain, one_of, return_is}
 use Rattle.cjc_theorem.proofs.WholeRuns.Operations.{stack_plain, store_is}

@@ -10,19 +10,19 @@ use Rattle.cjc_bytes.specs.declared.fault.MemberId.{MemberId}
 use Rattle.cjc_bytes.specs.declared.settings.Settings.{Settings}
 use Rattle.cjc_bytes.proofs.Gets.{all_at}
 use Rattle.cjc_jvm_semantics.specs.OnePackage.{declared_fields, instance_fields, member_of, object_fields}
-use Rattle.cjc_token_proof.specs.WorldProof.Calls.Solid.{IsSolid}
+use Rattle.cjc_shape_proof.specs.WorldProof.Calls.Solid.{IsSolid}
 use Rattle.cjc_token_proof.proofs.WorldProofOwn.{mapped_at}
 use Rattle.cjc_code.proofs.ClassFileFitting.{spelt_fits}
-use Rattle.cjc_subset.specs.ClassFile.Fits as fits
-use Rattle.cjc_subset.specs.ClassFile.declared.tree.ClassTree.{ClassTree}
-use Rattle.cjc_subset.specs.ClassFile.declared.tree.FieldTree.{FieldTree}
+use Rattle.cjc_code.specs.ClassFile.Fits as fits
+use Rattle.cjc_code.specs.ClassFile.declared.tree.ClassTree.{ClassTree}
+use Rattle.cjc_code.specs.ClassFile.declared.tree.FieldTree.{FieldTree}
 use Rattle.cjc_code.specs.declared.method_code.MethodCode.{MethodCode}
 use Rattle.cjc_shape_proof.proofs.FindsLaws.Descs.{read_of}
 use Rattle.cjc_shape_proof.proofs.FindsLaws.Fields.{value_field, word_field}
 use Rattle.cjc_narrow_proof.specs.Runs.Names.{IsWordField}
-use Rattle.cjc_jvm_semantics.specs.Script.Sorts.{field_sort}
+use Rattle.cjc_token_proof.specs.Script.Sorts.{field_sort}
 use Rattle.cjc_narrow_proof.specs.Selection.Objects.{has_values, is_field}
-use Rattle.cjc_token_proof.specs.WorldProof.Files.{AreReadFiles}
+use Rattle.cjc_shape_proof.specs.WorldProof.Files.{AreReadFiles}
 use Rattle.cjc_token_proof.proofs.WorldProofRules.{field_kept}
 use Rattle.cjc_subset.specs.Checks.{check_breaks}
 use Rattle.cjc_subset.specs.Types.{is_int_desc}

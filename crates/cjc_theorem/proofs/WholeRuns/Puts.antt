@@ -11,25 +11,25 @@ use Rattle.cjc_bytes.proofs.Numbers.{same_place}
 use Rattle.cjc_bytes.proofs.Options.{option_taken}
 use Rattle.cjc_bytes.proofs.Gets.{set_other}
 use Rattle.cjc_bytes.proofs.Quantified.{all_both}
-use Rattle.cjc_subset.specs.ClassFile.declared.tree.ClassTree.{ClassTree}
-use Rattle.cjc_subset.specs.ClassFile.declared.tree.FieldTree.{FieldTree}
-use Rattle.cjc_subset.specs.ClassFile.declared.tree.MethodTree.{MethodTree}
-use Rattle.cjc_components.specs.Clinit.declared.stage.Held.{Held}
-use Rattle.cjc_components.specs.Clinit.declared.stage.Held.TheVariants as held
-use Rattle.cjc_components.specs.Clinit.declared.stage.Start.{Start}
-use Rattle.cjc_components.specs.Clinit.declared.stage.Start.TheVariants as starts
+use Rattle.cjc_code.specs.ClassFile.declared.tree.ClassTree.{ClassTree}
+use Rattle.cjc_code.specs.ClassFile.declared.tree.FieldTree.{FieldTree}
+use Rattle.cjc_code.specs.ClassFile.declared.tree.MethodTree.{MethodTree}
+use Rattle.cjc_token_proof.specs.Clinit.declared.stage.Held.{Held}
+use Rattle.cjc_token_proof.specs.Clinit.declared.stage.Held.TheVariants as held
+use Rattle.cjc_token_proof.specs.Clinit.declared.stage.Start.{Start}
+use Rattle.cjc_token_proof.specs.Clinit.declared.stage.Start.TheVariants as starts
 use Rattle.cjc_components.proofs.ClinitCells.{cell_fits}
-use Rattle.cjc_components.specs.Clinit.Fields.{ANull, ANumber, AnArray, Contents, fits_kind, has_unfit_value, held_by}
-use Rattle.cjc_components.specs.Clinit.Fields.{is_cell}
-use Rattle.cjc_components.specs.Clinit.Fields.{is_reference, number_kind, takes, value_fits}
-use Rattle.cjc_components.specs.Clinit.Image.{AreInitialised, class_where, fields_in, field_id, held_in}
-use Rattle.cjc_components.specs.Clinit.Image.{if_initialiser}
-use Rattle.cjc_components.specs.Clinit.Image.{initialised, of_classes, of_fields, of_start, start_by, start_of}
-use Rattle.cjc_components.specs.Clinit.Image.{unput_start}
-use Rattle.cjc_components.specs.Clinit.Image.{value_or_zero}
-use Rattle.cjc_components.specs.Clinit.Image as images
-use Rattle.cjc_components.specs.Clinit.Initialiser.{Initialises, Put, is_initialiser, nothing_in, open_place}
-use Rattle.cjc_components.specs.Clinit.Initialiser as init
+use Rattle.cjc_token_proof.specs.Clinit.Fields.{ANull, ANumber, AnArray, Contents, fits_kind, has_unfit_value, held_by}
+use Rattle.cjc_token_proof.specs.Clinit.Fields.{is_cell}
+use Rattle.cjc_token_proof.specs.Clinit.Fields.{is_reference, number_kind, takes, value_fits}
+use Rattle.cjc_token_proof.specs.Clinit.Image.{AreInitialised, class_where, fields_in, field_id, held_in}
+use Rattle.cjc_token_proof.specs.Clinit.Image.{if_initialiser}
+use Rattle.cjc_token_proof.specs.Clinit.Image.{initialised, of_classes, of_fields, of_start, start_by, start_of}
+use Rattle.cjc_token_proof.specs.Clinit.Image.{unput_start}
+use Rattle.cjc_token_proof.specs.Clinit.Image.{value_or_zero}
+use Rattle.cjc_token_proof.specs.Clinit.Image as images
+use Rattle.cjc_token_proof.specs.Clinit.Initialiser.{Initialises, Put, is_initialiser, nothing_in, open_place}
+use Rattle.cjc_token_proof.specs.Clinit.Initialiser as init
 use Rattle.cjc_token_proof.proofs.WorldProofPlaces.{place-field}
 use Rattle.cjc_code.specs.declared.insn.JOp.{JOp}
 use Rattle.cjc_code.specs.declared.method_code.MethodCode.{MethodCode}

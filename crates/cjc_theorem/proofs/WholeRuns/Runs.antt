@@ -7,12 +7,12 @@ use Rattle.cjc_bytes.specs.Breaks.{Break, broken_at}
 use Rattle.cjc_bytes.specs.Order.{file_of}
 use Rattle.cjc_bytes.specs.declared.fault.MemberId.{MemberId}
 use Rattle.cjc_bytes.specs.declared.settings.Settings.{Settings}
-use Rattle.cjc_subset.specs.ClassFile.declared.tree.ClassTree.{ClassTree}
-use Rattle.cjc_subset.specs.ClassFile.declared.tree.FieldTree.{FieldTree}
-use Rattle.cjc_components.specs.Clinit.Fields.{has_unfit_value}
-use Rattle.cjc_components.specs.Clinit.Image.{IsImage}
-use Rattle.cjc_components.specs.Clinit.Initialiser.{is_initialiser}
-use Rattle.cjc_components.specs.Clinit.Rules.{BreaksImage, of_class}
+use Rattle.cjc_code.specs.ClassFile.declared.tree.ClassTree.{ClassTree}
+use Rattle.cjc_code.specs.ClassFile.declared.tree.FieldTree.{FieldTree}
+use Rattle.cjc_token_proof.specs.Clinit.Fields.{has_unfit_value}
+use Rattle.cjc_token_proof.specs.Clinit.Image.{IsImage}
+use Rattle.cjc_token_proof.specs.Clinit.Initialiser.{is_initialiser}
+use Rattle.cjc_token_proof.specs.Clinit.Rules.{BreaksImage, of_class}
 use Rattle.cjc_code.specs.declared.method_code.MethodCode.{MethodCode}
 use Rattle.cjc_shape_proof.specs.Whole.{IsWhole}
 use Rattle.cjc_narrow_proof.specs.Runs.Converted.{IsConverted, IsFirst}

@@ -3,18 +3,18 @@
 -- 16 bits (Java Virtual Machine Specification, chapter 6; Java Card Virtual Machine Specification 2.2.2, chapters 3, 4,
 -- 6, 7).
 use Rattle.std.specs.Prelude.{◌≡◌, ℕ, Some}
-use Rattle.cjc_ncode.specs.CardSemantics.Bytecode.Runs.{Agree}
+use Rattle.cjc_token_proof.specs.CardSemantics.Bytecode.Runs.{Agree}
 use Rattle.cjc_jvm_semantics.specs.ByName.{run as run_by_name}
-use Rattle.cjc_ncode.specs.CapRead.declared.tree.CapTree.{CapTree}
-use Rattle.cjc_ncode.specs.CardSemantics.Machine.ByToken.{run as run_by_token}
-use Rattle.cjc_components.specs.Clinit.Image.{IsImage}
+use Rattle.cjc_jvm_semantics.specs.CapRead.declared.tree.CapTree.{CapTree}
+use Rattle.cjc_token_proof.specs.CardSemantics.Machine.ByToken.{run as run_by_token}
+use Rattle.cjc_token_proof.specs.Clinit.Image.{IsImage}
 use Rattle.cjc_code.specs.PackageCodes.{all_codes}
-use Rattle.cjc_shape_proof.specs.Judge.Rules.{has_applets}
-use Rattle.cjc_components.specs.List.Listed.{ListTree}
+use Rattle.cjc_shape_proof.specs.LowerJudge.Rules.{has_applets}
+use Rattle.cjc_token_proof.specs.List.Listed.{ListTree}
 use Rattle.cjc_components.specs.Paired.Naming.{loaded_of}
-use Rattle.cjc_jvm_semantics.specs.Script.declared.report.Report.{Report}
-use Rattle.cjc_jvm_semantics.specs.Script.declared.script.Script.{Script}
-use Rattle.cjc_components.specs.CheckRules.Complete.{Complete, complete}
+use Rattle.cjc_token_proof.specs.Script.declared.report.Report.{Report}
+use Rattle.cjc_token_proof.specs.Script.declared.script.Script.{Script}
+use Rattle.cjc_token_proof.specs.CheckRules.Complete.{Complete, complete}
 use Rattle.cjc_world.specs.Files.{Files}
 use Rattle.cjc_world.specs.declared.image.StaticImage.{StaticImage}
 

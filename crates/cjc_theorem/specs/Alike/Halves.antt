@@ -2,29 +2,29 @@
 -- the components, run by token, stands the narrow code that is selected, run by label (Java Card Virtual Machine
 -- Specification 2.2.2, chapter 7).
 use Rattle.std.specs.Prelude.{◌≡◌, ◌≢◌, ℕ, ◌≤◌, List, Bool, false, Option, Some, slice_get}
-use Rattle.cjc_ncode.specs.CapRead.declared.tree.CapTree.{CapTree}
-use Rattle.cjc_ncode.specs.CardSemantics.Bytecode.Runs.{Agree}
-use Rattle.cjc_ncode.specs.CardSemantics.Machine.ByToken.{run as run_by_token}
-use Rattle.cjc_components.specs.CheckRules.Complete.{Complete, complete}
-use Rattle.cjc_components.specs.Clinit.Image.{IsImage}
+use Rattle.cjc_jvm_semantics.specs.CapRead.declared.tree.CapTree.{CapTree}
+use Rattle.cjc_token_proof.specs.CardSemantics.Bytecode.Runs.{Agree}
+use Rattle.cjc_token_proof.specs.CardSemantics.Machine.ByToken.{run as run_by_token}
+use Rattle.cjc_token_proof.specs.CheckRules.Complete.{Complete, complete}
+use Rattle.cjc_token_proof.specs.Clinit.Image.{IsImage}
 use Rattle.cjc_code.specs.PackageCodes.{all_codes}
 use Rattle.cjc_components.specs.Package.{LaidMethod, Package, pool}
 use Rattle.cjc_components.specs.Paired.Naming.{loaded_of}
-use Rattle.cjc_shape_proof.specs.Judge.Rules.{has_applets}
+use Rattle.cjc_shape_proof.specs.LowerJudge.Rules.{has_applets}
 use Rattle.cjc_jvm_semantics.specs.ByName.{run as run_by_name}
 use Rattle.cjc_jvm_semantics.specs.Linked.{Method}
 use Rattle.cjc_jvm_semantics.specs.OnePackage.{is_initialiser, method_at}
-use Rattle.cjc_components.specs.Layout.Legal.{IsLegal}
-use Rattle.cjc_components.specs.Layout.Sizes.{code_size}
-use Rattle.cjc_components.specs.List.Listed.{ListTree}
-use Rattle.cjc_narrow.specs.Rows.Package.{code_of, run as run_narrow}
-use Rattle.cjc_narrow.specs.Rows.Selected.{near_fields}
-use Rattle.cjc_jvm_semantics.specs.Script.declared.report.Outcome.TheVariants.{Stuck}
-use Rattle.cjc_jvm_semantics.specs.Script.declared.report.Report.{Report}
-use Rattle.cjc_jvm_semantics.specs.Script.declared.script.Script.{Script}
-use Rattle.cjc_shape_proof.specs.Shape.Whole.Conversion.{AreLeast}
+use Rattle.cjc_token_proof.specs.Layout.Legal.{IsLegal}
+use Rattle.cjc_token_proof.specs.Layout.Sizes.{code_size}
+use Rattle.cjc_token_proof.specs.List.Listed.{ListTree}
+use Rattle.cjc_token_proof.specs.Narrow.Rows.Package.{code_of, run as run_narrow}
+use Rattle.cjc_token_proof.specs.Narrow.Rows.Selected.{near_fields}
+use Rattle.cjc_token_proof.specs.Script.declared.report.Outcome.TheVariants.{Stuck}
+use Rattle.cjc_token_proof.specs.Script.declared.report.Report.{Report}
+use Rattle.cjc_token_proof.specs.Script.declared.script.Script.{Script}
+use Rattle.cjc_shape_proof.specs.LowerShape.Whole.Conversion.{AreLeast}
 use Rattle.cjc_token_proof.specs.WrittenCalls.Standing.{laid_code}
-use Rattle.cjc_narrow_proof.specs.Types.declared.state.State.{State}
+use Rattle.cjc_token_proof.specs.Types.declared.state.State.{State}
 use Rattle.cjc_world.specs.declared.found.Found.{Found}
 
 -- ---- the runs

@@ -1,10 +1,10 @@
 -- Export files made by hand: java/lang with all that a package needs of it, a package q, and javacard/framework with an
 -- applet, an interface and a class that implements it.
 use Rattle.std.specs.Prelude.{ℕ, List, [], ◌∷◌, codes}
-use Rattle.cjc_ncode.specs.CardSemantics.Machine.Worked.{exception, exported, exported_method, object, tree}
-use Rattle.cjc_subset.specs.ExportFile.declared.tree.ExportClass.{ExportClass}
-use Rattle.cjc_subset.specs.ExportFile.declared.tree.ExportMethod.{ExportMethod}
-use Rattle.cjc_subset.specs.ExportFile.declared.tree.ExportTree.{ExportTree}
+use Rattle.cjc_token_proof.specs.CardSemantics.Machine.Worked.{exception, exported, exported_method, object, tree}
+use Rattle.cjc_world.specs.ExportFile.declared.tree.ExportClass.{ExportClass}
+use Rattle.cjc_world.specs.ExportFile.declared.tree.ExportMethod.{ExportMethod}
+use Rattle.cjc_world.specs.ExportFile.declared.tree.ExportTree.{ExportTree}
 
 -- equals
 abbrev pub equals : ExportMethod

@@ -3,14 +3,14 @@
 
 ghost use Rattle.std.specs.Prelude.{◌≡◌, ℕ, List, true};
 ghost use Rattle.cjc_token_proof.specs.ByToken.Cells.{are_cells};
-ghost use Rattle.cjc_components.specs.Clinit.Image.{IsImage};
-ghost use Rattle.cjc_token_proof.specs.WorldProof.Initialisers.Values.{StandOnce};
+ghost use Rattle.cjc_token_proof.specs.Clinit.Image.{IsImage};
+ghost use Rattle.cjc_shape_proof.specs.WorldProof.Initialisers.Values.{StandOnce};
 ghost use Rattle.cjc_code.specs.declared.method_code.MethodCode.{MethodCode};
 ghost use Rattle.cjc_components.specs.Package.{Package};
-ghost use Rattle.cjc_shape_proof.specs.Classes.Descriptor.Fits.{AreFit};
-ghost use Rattle.cjc_shape_proof.specs.Judge.declared.judged.Judged.{Judged};
-ghost use Rattle.cjc_components.specs.List.Listed.{ListTree};
-ghost use Rattle.cjc_narrow.specs.Rows.Package.{first_memory};
+ghost use Rattle.cjc_shape_proof.specs.LowerClasses.Descriptor.Fits.{AreFit};
+ghost use Rattle.cjc_shape_proof.specs.LowerJudge.declared.judged.Judged.{Judged};
+ghost use Rattle.cjc_token_proof.specs.List.Listed.{ListTree};
+ghost use Rattle.cjc_token_proof.specs.Narrow.Rows.Package.{first_memory};
 ghost use Rattle.cjc_token_proof.specs.Tables.Known.{statics_of};
 ghost use Rattle.cjc_token_proof.specs.Tables.Sound.{AreTyped, IsSound};
 ghost use Rattle.cjc_shape_proof.specs.Written.Converted.{IsConverted};

@@ -3,8 +3,8 @@
 
 ghost use Rattle.std.specs.Prelude.{ℕ, List};
 ghost use Rattle.cjc_components.specs.Package.{Package};
-ghost use Rattle.cjc_shape_proof.specs.Judge.declared.judged.Judged.{Judged};
-ghost use Rattle.cjc_components.specs.List.Listed.{ListTree};
+ghost use Rattle.cjc_shape_proof.specs.LowerJudge.declared.judged.Judged.{Judged};
+ghost use Rattle.cjc_token_proof.specs.List.Listed.{ListTree};
 ghost use Rattle.cjc_shape_proof.specs.Written.Converted.{IsConverted};
 ghost use Rattle.cjc_token_proof.specs.WrittenSends.Named.{InstructionsNameWhatIsThere};
 

@@ -3,13 +3,13 @@
 //! definition and laws alone; nothing here runs.
 
 ghost use Rattle.std.specs.Prelude.{◌≡◌, ◌≢◌, ℕ, List};
-ghost use Rattle.cjc_ncode.specs.CardSemantics.Machine.ByToken.{run as run_by_token};
+ghost use Rattle.cjc_token_proof.specs.CardSemantics.Machine.ByToken.{run as run_by_token};
 ghost use Rattle.cjc_components.specs.Package.{Package};
-ghost use Rattle.cjc_shape_proof.specs.Judge.declared.judged.Judged.{Judged};
-ghost use Rattle.cjc_components.specs.List.Listed.{ListTree};
-ghost use Rattle.cjc_narrow.specs.Rows.Package.{run as run_by_label};
-ghost use Rattle.cjc_jvm_semantics.specs.Script.declared.report.Outcome.TheVariants.{Stuck};
-ghost use Rattle.cjc_jvm_semantics.specs.Script.declared.script.Script.{Script};
+ghost use Rattle.cjc_shape_proof.specs.LowerJudge.declared.judged.Judged.{Judged};
+ghost use Rattle.cjc_token_proof.specs.List.Listed.{ListTree};
+ghost use Rattle.cjc_token_proof.specs.Narrow.Rows.Package.{run as run_by_label};
+ghost use Rattle.cjc_token_proof.specs.Script.declared.report.Outcome.TheVariants.{Stuck};
+ghost use Rattle.cjc_token_proof.specs.Script.declared.script.Script.{Script};
 ghost use Rattle.cjc_token_proof.specs.Tables.Loading.{loaded};
 ghost use Rattle.cjc_token_proof.specs.WrittenCalls.Standing.{laid_code};
 ghost use Rattle.cjc_shape_proof.specs.Written.Converted.{IsConverted};
@@ -21,7 +21,7 @@ use crate::alike::{
     calls_are_named, calls_have_opcodes, export_files_are_kept, first_cells_are_typed,
     instructions_name_what_is_there, names_are_there,
 };
-use cjc_narrow::types::State;
+use cjc_narrow_proof::types::State;
 use cjc_shape_proof::written::{
     converted_classes_keep_rules, converted_files_are_sound, converted_methods_are_consistent,
     converted_methods_are_in_order, converted_methods_are_ready, converted_packages_run_by_token,

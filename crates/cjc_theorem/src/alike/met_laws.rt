@@ -2,18 +2,18 @@
 //! whoever converts a package. It has laws alone; nothing here runs.
 
 ghost use Rattle.std.specs.Prelude.{ℕ, List};
-ghost use Rattle.cjc_shape_proof.specs.CheckProof.Classes.Premises.{HaveInstalls, KeysAreKnown, TypesAreKnown};
+ghost use Rattle.cjc_shape_proof.specs.LowerCheckProof.Classes.Premises.{HaveInstalls, KeysAreKnown, TypesAreKnown};
 ghost use Rattle.cjc_token_proof.specs.Components.Whole.{exports_of};
 ghost use Rattle.cjc_components.specs.Components.{components_of};
 ghost use Rattle.cjc_components.specs.Package.{Package, world};
 ghost use Rattle.cjc_theorem.specs.Alike.Met.{NamesAreMet};
 ghost use Rattle.cjc_shape_proof.specs.Written.LaidOut.{AidsAreShort};
-ghost use Rattle.cjc_shape_proof.specs.CheckProof.Exports.{ExportsHaveOneAccess};
-ghost use Rattle.cjc_shape_proof.specs.Judge.Spelt.{IsRead};
-ghost use Rattle.cjc_shape_proof.specs.Judge.declared.judged.Judged.{Judged};
-ghost use Rattle.cjc_components.specs.List.Listed.{ListTree};
-ghost use Rattle.cjc_components.specs.CheckRules.Consistent.{Consistent};
-ghost use Rattle.cjc_shape_proof.specs.CheckProof.Keys.{AllAreThere};
+ghost use Rattle.cjc_shape_proof.specs.LowerCheckProof.Exports.{ExportsHaveOneAccess};
+ghost use Rattle.cjc_shape_proof.specs.LowerJudge.Spelt.{IsRead};
+ghost use Rattle.cjc_shape_proof.specs.LowerJudge.declared.judged.Judged.{Judged};
+ghost use Rattle.cjc_token_proof.specs.List.Listed.{ListTree};
+ghost use Rattle.cjc_token_proof.specs.CheckRules.Consistent.{Consistent};
+ghost use Rattle.cjc_shape_proof.specs.LowerCheckProof.Keys.{AllAreThere};
 ghost use Rattle.cjc_shape_proof.specs.Written.Converted.{IsConverted};
 
 use crate::alike::{

@@ -5,14 +5,14 @@
 ghost use Rattle.std.specs.Prelude.{◌≡◌, ℕ, List, Some, false, slice_get, true};
 ghost use Rattle.cjc_bytes.specs.declared.fault.MemberId.{MemberId as Member};
 ghost use Rattle.cjc_jvm_semantics.specs.OnePackage.{is_constructor};
-ghost use Rattle.cjc_subset.specs.ClassFile.declared.tree.ClassTree.{ClassTree};
+ghost use Rattle.cjc_code.specs.ClassFile.declared.tree.ClassTree.{ClassTree};
 ghost use Rattle.cjc_code.specs.Jvm as jvm;
 ghost use Rattle.cjc_code.specs.declared.insn.JOp.TheVariants as jop;
 ghost use Rattle.cjc_components.specs.Package.{LaidMethod, Package, world};
-ghost use Rattle.cjc_shape_proof.specs.Judge.declared.judged.Judged.{Judged};
-ghost use Rattle.cjc_components.specs.List.Listed.{ListTree};
+ghost use Rattle.cjc_shape_proof.specs.LowerJudge.declared.judged.Judged.{Judged};
+ghost use Rattle.cjc_token_proof.specs.List.Listed.{ListTree};
 ghost use Rattle.cjc_theorem.specs.Alike.Opcodes.{CallsHaveOpcodes};
-ghost use Rattle.cjc_narrow.specs.Rows.Resolved.{resolved_method};
+ghost use Rattle.cjc_token_proof.specs.Narrow.Rows.Resolved.{resolved_method};
 ghost use Rattle.cjc_narrow_proof.specs.Laws.Unbroken.{IsInsnOf};
 ghost use Rattle.cjc_ncode.specs.ByLabel.{Fixed};
 ghost use Rattle.cjc_ncode.specs.declared.narrow.NInsn.{NInsn as Narrow};

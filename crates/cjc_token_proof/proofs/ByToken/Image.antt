@@ -5,7 +5,7 @@ use Rattle.std.specs.Prelude.{Some, map, slice_set, if◌then◌else◌, ◌&&�
 use Rattle.std.specs.Int.{w8, w16, w32, cast_signed, cast_unsigned}
 use Rattle.std.specs.Int.RustNames.{int_le}
 use Rattle.std.proofs.lemmas.Int.{ints, to_z-of_z}
-use Rattle.cjc_vtable.specs.Range.Words.{low_word, low_byte}
+use Rattle.cjc_card_semantics.specs.Range.Words.{low_word, low_byte}
 use Rattle.cjc_card_semantics.proofs.RangeWords as words
 use Rattle.cjc_bytes.specs.declared.fault.MemberId.{MemberId}
 use Rattle.cjc_bytes.proofs.Integers.{by_ends_32, le_true as true_le, above_if, by_ends_8}

@@ -6,7 +6,7 @@ use Rattle.std.specs.Prelude.{unwrap_or, slice_get, codes}
 use Rattle.std.proofs.lemmas.Bool.Decides.{nat_tests}
 use Rattle.std.specs.Str.{bytes_eq}
 use Rattle.cjc_bytes.specs.AccessFlags as flags
-use Rattle.cjc_tokens.specs.ExportFile.declared.tree.ExportClass.{ExportClass}
+use Rattle.cjc_world.specs.ExportFile.declared.tree.ExportClass.{ExportClass}
 use Rattle.cjc_script.specs.Sorts.{OfClass}
 use Rattle.cjc_card_semantics.specs.Bytecode.Calculations.{Fault, Arithmetic, NullPointer, IndexOutside, NegativeSize}
 use Rattle.cjc_card_semantics.specs.Bytecode.Calculations.{ClassCast, ArrayStore}
@@ -22,8 +22,8 @@ use Rattle.cjc_world.specs.Classes.{Class, class_named}
 use Rattle.cjc_world.proofs.Cycles.{class_named-name}
 use Rattle.cjc_world.specs.Subtype.{is_subtype}
 use Rattle.cjc_jvm_semantics.specs.OnePackage.{is_plain_import}
-use Rattle.cjc_components.specs.Narrow.Rows.Package.{name_there, plain_import, throwable_import}
-use Rattle.cjc_components.specs.Narrow.Rows.Package
+use Rattle.cjc_components.specs.LowerNarrow.Rows.Package.{name_there, plain_import, throwable_import}
+use Rattle.cjc_components.specs.LowerNarrow.Rows.Package
 use Rattle.cjc_ncode.specs.Lowering.Naming.{Naming}
 use Rattle.cjc_token_proof.specs.ByToken.Supers.{has_class, KindsAgree}
 use Rattle.cjc_token_proof.specs.ByToken.Names.{SaysNames, HasLang, NamesAgree}

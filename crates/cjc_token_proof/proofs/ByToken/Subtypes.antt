@@ -5,7 +5,7 @@ use Rattle.std.specs.Prelude.{Option, Some, None, is_some, if◌then◌else◌, 
 use Rattle.std.specs.Prelude.{option_to_list, codes}
 use Rattle.std.specs.List.{list_any}
 use Rattle.std.specs.Str.{bytes_eq}
-use Rattle.cjc_tokens.specs.ExportFile.declared.tree.ExportClass.{ExportClass}
+use Rattle.cjc_world.specs.ExportFile.declared.tree.ExportClass.{ExportClass}
 use Rattle.cjc_script.specs.Sorts.{Element, Booleans, Bytes, Shorts, Ints, OfClass, OfNumbers, OfReferences, shape_name}
 use Rattle.cjc_card_semantics.specs.Machine.Classes.{Own, External, Info, same_class, is_in, is_of, info_of}
 use Rattle.cjc_card_semantics.specs.Machine.Classes.{info_supers, all_supers, class_of, external, external_named}

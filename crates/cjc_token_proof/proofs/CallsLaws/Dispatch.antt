@@ -5,7 +5,7 @@ use Rattle.std.specs.Prelude.{Option, Some, None, option_map, option_to_list, sl
 use Rattle.std.specs.Prelude.{◌==◌}
 use Rattle.std.proofs.lemmas.Bool.Decides.{nat_tests}
 use Rattle.std.specs.Str.{bytes_eq}
-use Rattle.cjc_ncode.specs.CapRead.declared.tree.ImplementedInterface.{ImplementedInterface}
+use Rattle.cjc_card_semantics.specs.CapRead.declared.tree.ImplementedInterface.{ImplementedInterface}
 use Rattle.cjc_card_semantics.specs.Machine.Classes.{Info, same_class}
 use Rattle.cjc_card_semantics.specs.Machine.Classes as card
 use Rattle.cjc_card_semantics.specs.Machine.Dispatch.{Tower, Exported, Selection, At, Outward, above}

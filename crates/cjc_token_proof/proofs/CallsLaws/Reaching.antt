@@ -26,9 +26,9 @@ use Rattle.cjc_jvm_semantics.specs.Linked
 use Rattle.cjc_jvm_semantics.specs.OnePackage.{callee_at, entry_named, first_imported, interface_callee}
 use Rattle.cjc_jvm_semantics.specs.OnePackage.{method_at, of_class, select_in, selected_from, sent_named}
 use Rattle.cjc_ncode.specs.ByLabel.{Callee, Fixed, OnObject, OnSuper}
-use Rattle.cjc_components.specs.Narrow.Rows.Package.{class_of_callee, direct, on_class, selected_on}
-use Rattle.cjc_components.specs.Narrow.Rows.Package.{named as named_package}
-use Rattle.cjc_components.specs.Narrow.Rows.Package
+use Rattle.cjc_components.specs.LowerNarrow.Rows.Package.{class_of_callee, direct, on_class, selected_on}
+use Rattle.cjc_components.specs.LowerNarrow.Rows.Package.{named as named_package}
+use Rattle.cjc_components.specs.LowerNarrow.Rows.Package
 use Rattle.cjc_vtable.specs.Laws.{itself, selection}
 use Rattle.cjc_ncode.specs.Lowering.Agreement.{MethodsAgree}
 use Rattle.cjc_ncode.specs.Lowering.Naming.{Naming, callee}

@@ -1,7 +1,7 @@
 -- What class infos say of a class and its superclasses, told from the class up to any height that is enough.
 use Rattle.std.proofs.Common.{◌≡◌, ℕ, zero, suc, ◌≤◌, sym, ap, ◌∙◌, arith, List}
 use Rattle.std.specs.Prelude.{Some}
-use Rattle.cjc_ncode.specs.CapRead.declared.tree.ClassEntry.{ClassEntry}
+use Rattle.cjc_card_semantics.specs.CapRead.declared.tree.ClassEntry.{ClassEntry}
 use Rattle.cjc_card_semantics.specs.Machine.Classes.{class_of, depth}
 use Rattle.cjc_card_semantics.specs.Machine.Dispatch.{Tower, Exported, Table, above, exported_line, tower, tower_from}
 use Rattle.cjc_card_semantics.specs.Machine.Dispatch.{table_or_missing}

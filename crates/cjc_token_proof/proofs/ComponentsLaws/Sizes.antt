@@ -1,30 +1,30 @@
 -- The size of a component by its items is the number of its bytes.
 use Rattle.std.proofs.Common.{◌≡◌, ℕ, ◌+◌, ◌*◌, List, length, refl, ap, ◌∙◌, arith}
 use Rattle.std.specs.Prelude.{Option, Some, None, flat_map, sum_by}
-use Rattle.cjc_ncode.specs.CapRead.declared.tree.Header.{Header}
-use Rattle.cjc_ncode.specs.CapRead.declared.tree.Applet.{Applet}
-use Rattle.cjc_ncode.specs.CapRead.declared.tree.Import.{Import}
-use Rattle.cjc_ncode.specs.CapRead.declared.tree.ConstantPool.{ConstantPool}
-use Rattle.cjc_ncode.specs.CapRead.declared.tree.ClassEntry.{ClassEntry}
-use Rattle.cjc_ncode.specs.CapRead.declared.tree.ClassInfo.{ClassInfo}
-use Rattle.cjc_ncode.specs.CapRead.declared.tree.Method.{Method}
-use Rattle.cjc_ncode.specs.CapRead.declared.tree.StaticField.{StaticField}
-use Rattle.cjc_ncode.specs.CapRead.declared.tree.ReferenceLocation.{ReferenceLocation}
-use Rattle.cjc_ncode.specs.CapRead.declared.tree.Export.{Export}
-use Rattle.cjc_ncode.specs.CapRead.declared.tree.TypeDescriptor.{TypeDescriptor}
-use Rattle.cjc_ncode.specs.CapRead.declared.tree.Descriptor.{Descriptor}
-use Rattle.cjc_components.specs.CapWrite.Package.{header_bytes, applet_entry_bytes, applet_bytes}
-use Rattle.cjc_components.specs.CapWrite.Package.{imported_package_bytes}
-use Rattle.cjc_components.specs.CapWrite.Package.{import_bytes}
-use Rattle.cjc_components.specs.CapWrite.Pool.{pool_bytes}
-use Rattle.cjc_components.specs.CapWrite.Class.{interface_bytes, implemented_bytes, class_entry_bytes}
-use Rattle.cjc_components.specs.CapWrite.Class.{class_info_bytes}
-use Rattle.cjc_components.specs.CapWrite.Method.{method_bytes}
-use Rattle.cjc_components.specs.CapWrite.Statics.{array_init_bytes, static_field_bytes, reference_location_bytes}
-use Rattle.cjc_components.specs.CapWrite.Export.{exported_class_bytes, export_bytes}
-use Rattle.cjc_components.specs.CapWrite.Descriptor.{class_descriptor_bytes, type_bytes, types_bytes}
-use Rattle.cjc_components.specs.CapWrite.Descriptor.{descriptor_bytes}
-use Rattle.cjc_components.specs.CapWrite.Files.{part}
+use Rattle.cjc_card_semantics.specs.CapRead.declared.tree.Header.{Header}
+use Rattle.cjc_card_semantics.specs.CapRead.declared.tree.Applet.{Applet}
+use Rattle.cjc_card_semantics.specs.CapRead.declared.tree.Import.{Import}
+use Rattle.cjc_card_semantics.specs.CapRead.declared.tree.ConstantPool.{ConstantPool}
+use Rattle.cjc_card_semantics.specs.CapRead.declared.tree.ClassEntry.{ClassEntry}
+use Rattle.cjc_card_semantics.specs.CapRead.declared.tree.ClassInfo.{ClassInfo}
+use Rattle.cjc_card_semantics.specs.CapRead.declared.tree.Method.{Method}
+use Rattle.cjc_card_semantics.specs.CapRead.declared.tree.StaticField.{StaticField}
+use Rattle.cjc_card_semantics.specs.CapRead.declared.tree.ReferenceLocation.{ReferenceLocation}
+use Rattle.cjc_card_semantics.specs.CapRead.declared.tree.Export.{Export}
+use Rattle.cjc_card_semantics.specs.CapRead.declared.tree.TypeDescriptor.{TypeDescriptor}
+use Rattle.cjc_card_semantics.specs.CapRead.declared.tree.Descriptor.{Descriptor}
+use Rattle.cjc_components.specs.LowerCapWrite.Package.{header_bytes, applet_entry_bytes, applet_bytes}
+use Rattle.cjc_components.specs.LowerCapWrite.Package.{imported_package_bytes}
+use Rattle.cjc_components.specs.LowerCapWrite.Package.{import_bytes}
+use Rattle.cjc_components.specs.LowerCapWrite.Pool.{pool_bytes}
+use Rattle.cjc_components.specs.LowerCapWrite.Class.{interface_bytes, implemented_bytes, class_entry_bytes}
+use Rattle.cjc_components.specs.LowerCapWrite.Class.{class_info_bytes}
+use Rattle.cjc_components.specs.LowerCapWrite.Method.{method_bytes}
+use Rattle.cjc_components.specs.LowerCapWrite.Statics.{array_init_bytes, static_field_bytes, reference_location_bytes}
+use Rattle.cjc_components.specs.LowerCapWrite.Export.{exported_class_bytes, export_bytes}
+use Rattle.cjc_components.specs.LowerCapWrite.Descriptor.{class_descriptor_bytes, type_bytes, types_bytes}
+use Rattle.cjc_components.specs.LowerCapWrite.Descriptor.{descriptor_bytes}
+use Rattle.cjc_components.specs.LowerCapWrite.Files.{part}
 use Rattle.cjc_components.proofs.CapWriteLengths.{header_length, applet_entry_length, applet_length}
 use Rattle.cjc_components.proofs.CapWriteLengths.{imported_package_length}
 use Rattle.cjc_components.proofs.CapWriteLengths.{import_length, pool_length, interface_length, implemented_length}
@@ -34,13 +34,13 @@ use Rattle.cjc_components.proofs.CapWriteLengths.{static_field_length, locations
 use Rattle.cjc_components.proofs.CapWriteLengths.{export_length}
 use Rattle.cjc_components.proofs.CapWriteLengths.{class_descriptor_length, type_length, types_length}
 use Rattle.cjc_components.proofs.CapWriteLengths.{descriptor_length}
-use Rattle.cjc_components.specs.CheckRules.Complete.{applet_size, package_size, interface_size, map_size}
-use Rattle.cjc_components.specs.CheckRules.Complete.{class_size, array_size}
-use Rattle.cjc_components.specs.CheckRules.Complete.{exported_size, described_size, type_size, header_size}
-use Rattle.cjc_components.specs.CheckRules.Complete.{applets_size}
-use Rattle.cjc_components.specs.CheckRules.Complete.{import_size, pool_size, class_info_size, method_size}
-use Rattle.cjc_components.specs.CheckRules.Complete.{statics_size}
-use Rattle.cjc_components.specs.CheckRules.Complete.{locations_size, export_size, descriptor_size, size_of}
+use Rattle.cjc_components.specs.LowerCheckRules.Complete.{applet_size, package_size, interface_size, map_size}
+use Rattle.cjc_components.specs.LowerCheckRules.Complete.{class_size, array_size}
+use Rattle.cjc_components.specs.LowerCheckRules.Complete.{exported_size, described_size, type_size, header_size}
+use Rattle.cjc_components.specs.LowerCheckRules.Complete.{applets_size}
+use Rattle.cjc_components.specs.LowerCheckRules.Complete.{import_size, pool_size, class_info_size, method_size}
+use Rattle.cjc_components.specs.LowerCheckRules.Complete.{statics_size}
+use Rattle.cjc_components.specs.LowerCheckRules.Complete.{locations_size, export_size, descriptor_size, size_of}
 use Rattle.cjc_bytes.proofs.Lists.{each_size}
 
 -- of what may be absent

@@ -4,13 +4,13 @@ use Rattle.std.proofs.Common.{arith, length-append}
 use Rattle.std.specs.Prelude.{Some, map, slice_get, position, option_and_then, option_map, unwrap_or}
 use Rattle.std.specs.Str.{bytes_eq}
 use Rattle.std.proofs.lemmas.List.{length-map}
-use Rattle.cjc_ncode.specs.CapRead.declared.tree.ClassRef.{ClassRef}
-use Rattle.cjc_ncode.specs.CapRead.declared.tree.ClassRef.TheVariants.{Inside}
+use Rattle.cjc_card_semantics.specs.CapRead.declared.tree.ClassRef.{ClassRef}
+use Rattle.cjc_card_semantics.specs.CapRead.declared.tree.ClassRef.TheVariants.{Inside}
 use Rattle.cjc_card_semantics.specs.Machine.Classes.{Own, external_from, or_else}
-use Rattle.cjc_components.specs.CheckRules.Spots.{placed, starts}
-use Rattle.cjc_components.specs.CheckRules.Complete.{interface_size, class_size, map_size}
-use Rattle.cjc_components.specs.CheckRules.Classes.{first_interface, first_class}
-use Rattle.cjc_components.specs.CheckRules.Described.{all_starts}
+use Rattle.cjc_components.specs.LowerCheckRules.Spots.{placed, starts}
+use Rattle.cjc_components.specs.LowerCheckRules.Complete.{interface_size, class_size, map_size}
+use Rattle.cjc_components.specs.LowerCheckRules.Classes.{first_interface, first_class}
+use Rattle.cjc_components.specs.LowerCheckRules.Described.{all_starts}
 use Rattle.cjc_world.specs.Classes.{Class}
 use Rattle.cjc_world.specs.Order.{in_order, class_order}
 use Rattle.cjc_vtable.specs.Tables.{table_of}

@@ -1,7 +1,7 @@
 -- Tests that pass, and lists of places that are empty.
 use Rattle.std.proofs.Common.{◌≡◌, Bool, true, List, [], ◌++◌, ap, ◌∙◌}
-use Rattle.cjc_components.specs.CheckRules.declared.spot.ComponentPlace.{ComponentPlace}
-use Rattle.cjc_components.specs.CheckRules.Spots.{unless}
+use Rattle.cjc_components.specs.LowerCheckRules.declared.spot.ComponentPlace.{ComponentPlace}
+use Rattle.cjc_components.specs.LowerCheckRules.Spots.{unless}
 
 -- nothing is broken where the test passes
 pub passes : (test : Bool) (spot : ComponentPlace) → test ≡ true → unless test spot ≡ []

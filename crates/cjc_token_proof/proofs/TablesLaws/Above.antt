@@ -4,8 +4,8 @@ use Rattle.std.proofs.Common.{◌∷◌, ◌++◌, ⊎_elim}
 use Rattle.std.specs.Prelude.{map, not, Option, Some, None, is_some, option_and_then, option_map, option_to_list}
 use Rattle.std.specs.Prelude.{slice_get, unwrap_or, if◌then◌else◌}
 use Rattle.cjc_bytes.specs.AccessFlags.{is_interface}
-use Rattle.cjc_ncode.specs.CapRead.declared.tree.ClassRef.{ClassRef}
-use Rattle.cjc_tokens.specs.ExportFile.declared.tree.ExportClass.{ExportClass}
+use Rattle.cjc_card_semantics.specs.CapRead.declared.tree.ClassRef.{ClassRef}
+use Rattle.cjc_world.specs.ExportFile.declared.tree.ExportClass.{ExportClass}
 use Rattle.cjc_card_semantics.specs.Machine.Classes.{Class as CardClass, IsInterface, IsClass, Own, External}
 use Rattle.cjc_card_semantics.specs.Machine.Classes.{class_named as class_on_card, class_of, external_named, external}
 use Rattle.cjc_card_semantics.specs.Machine.Classes.{imported_class, number_of, object_class, offset_of, or_else}

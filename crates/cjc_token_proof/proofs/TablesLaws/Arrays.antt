@@ -18,23 +18,24 @@ use Rattle.cjc_card_semantics.specs.Bytecode.Renaming.{heap_object_as}
 use Rattle.cjc_card_semantics.specs.Machine.Classes.{Class, Field}
 use Rattle.cjc_card_semantics.specs.Machine.Statics.{element_of, elements, first_arrays}
 use Rattle.cjc_card_semantics.specs.Machine.Statics as card
-use Rattle.cjc_tokens.specs.ClassFile.declared.tree.ClassTree.{ClassTree}
-use Rattle.cjc_ncode.specs.Bytecode.declared.insn.JOp.{JOp}
-use Rattle.cjc_ncode.specs.Bytecode.declared.method_code.MethodCode.{MethodCode}
+use Rattle.cjc_world.specs.ClassFile.declared.tree.ClassTree.{ClassTree}
+use Rattle.cjc_world_proof.specs.Bytecode.declared.insn.JOp.{JOp}
+use Rattle.cjc_world_proof.specs.Bytecode.declared.method_code.MethodCode.{MethodCode}
 use Rattle.cjc_script.specs.Sorts.{Element}
 use Rattle.cjc_script.specs.declared.value.Value.TheVariants.{Num}
 use Rattle.cjc_world.specs.declared.image.ArrayCell.{ArrayCell}
 use Rattle.cjc_world.specs.Files.{Files}
-use Rattle.cjc_world_proof.specs.Clinit.declared.stage.Held.{Held}
-use Rattle.cjc_world_proof.specs.Clinit.Fields.{Contents, fits}
-use Rattle.cjc_world_proof.specs.Clinit.Image.{AreInitialised, IsImage, array_in, arrays_of, own_field}
-use Rattle.cjc_world_proof.specs.Clinit.Image.AreInitialised.{none as no_code, other as other_code, one as one_code}
-use Rattle.cjc_world_proof.specs.Clinit.Initialiser.{Initialises, Makes, of_number, of_null, of_array, Put, Stores}
-use Rattle.cjc_world_proof.specs.Clinit.Initialiser.{element_kind}
-use Rattle.cjc_world_proof.specs.Clinit.Initialiser.Initialises.{ends, puts}
-use Rattle.cjc_world_proof.specs.Clinit.Initialiser.Stores.{none as no_store, one as one_store}
-use Rattle.cjc_components.specs.Narrow.Rows.Package.{element_of_kind, first_memory}
-use Rattle.cjc_components.specs.Narrow.Rows.Package as narrow
+use Rattle.cjc_world_proof.specs.LowerClinit.declared.stage.Held.{Held}
+use Rattle.cjc_world_proof.specs.LowerClinit.Fields.{Contents, fits}
+use Rattle.cjc_world_proof.specs.LowerClinit.Image.{AreInitialised, IsImage, array_in, arrays_of, own_field}
+use Rattle.cjc_world_proof.specs.LowerClinit.Image.AreInitialised.{none as no_code, other as other_code}
+use Rattle.cjc_world_proof.specs.LowerClinit.Image.AreInitialised.{one as one_code}
+use Rattle.cjc_world_proof.specs.LowerClinit.Initialiser.{Initialises, Makes, of_number, of_null, of_array, Put, Stores}
+use Rattle.cjc_world_proof.specs.LowerClinit.Initialiser.{element_kind}
+use Rattle.cjc_world_proof.specs.LowerClinit.Initialiser.Initialises.{ends, puts}
+use Rattle.cjc_world_proof.specs.LowerClinit.Initialiser.Stores.{none as no_store, one as one_store}
+use Rattle.cjc_components.specs.LowerNarrow.Rows.Package.{element_of_kind, first_memory}
+use Rattle.cjc_components.specs.LowerNarrow.Rows.Package as narrow
 use Rattle.cjc_token_proof.specs.ByToken.Objects.{slots_of}
 use Rattle.cjc_token_proof.proofs.ByToken.Image.{read_back}
 use Rattle.cjc_components.specs.Package.{Package}

@@ -8,10 +8,10 @@ use Rattle.cjc_bytes.specs.AccessFlags.{is_static}
 use Rattle.cjc_bytes.specs.declared.fault.MemberId.{MemberId}
 use Rattle.cjc_bytes.proofs.Lists.{name_is}
 use Rattle.cjc_bytes.proofs.Gets.{in_front}
-use Rattle.cjc_tokens.specs.ClassFile.declared.tree.ClassTree.{ClassTree}
-use Rattle.cjc_tokens.specs.ClassFile.declared.tree.FieldTree.{FieldTree}
+use Rattle.cjc_world.specs.ClassFile.declared.tree.ClassTree.{ClassTree}
+use Rattle.cjc_world.specs.ClassFile.declared.tree.FieldTree.{FieldTree}
 use Rattle.cjc_card_semantics.specs.Machine.Loaded.{FieldName}
-use Rattle.cjc_world_proof.specs.Clinit.Image.{field_id}
+use Rattle.cjc_world_proof.specs.LowerClinit.Image.{field_id}
 use Rattle.cjc_tokens.specs.Fields.{field_token, field_tokens, instance_token, is_instance, is_open_static}
 use Rattle.cjc_tokens.specs.Tokens.{OfClass, assigned, joined, method_tokens, of_class}
 use Rattle.cjc_tokens.specs.Tokens.{token_of_member}

@@ -7,12 +7,12 @@ use Rattle.std.proofs.lemmas.List.{length-map, map-append}
 use Rattle.std.proofs.lemmas.List.Concat.{flat_map-cons}
 use Rattle.std.proofs.lemmas.List.Sums.{sum_by-cons}
 use Rattle.cjc_bytes.specs.declared.fault.MemberId.{MemberId}
-use Rattle.cjc_tokens.specs.ClassFile.declared.tree.ClassTree.{ClassTree}
-use Rattle.cjc_tokens.specs.ClassFile.declared.tree.FieldTree.{FieldTree}
+use Rattle.cjc_world.specs.ClassFile.declared.tree.ClassTree.{ClassTree}
+use Rattle.cjc_world.specs.ClassFile.declared.tree.FieldTree.{FieldTree}
 use Rattle.cjc_card_semantics.specs.Machine.ByToken.{letter_of}
 use Rattle.cjc_card_semantics.specs.Machine.Statics.{Image, first_images, first_memory as first_on_card, number_bytes}
 use Rattle.cjc_card_semantics.specs.Machine.Statics.{objects_from}
-use Rattle.cjc_ncode.specs.Bytecode.declared.method_code.MethodCode.{MethodCode}
+use Rattle.cjc_world_proof.specs.Bytecode.declared.method_code.MethodCode.{MethodCode}
 use Rattle.cjc_script.specs.declared.value.Value.{Value}
 use Rattle.cjc_script.specs.declared.value.Value.TheVariants.{Num, Null, Obj}
 use Rattle.cjc_script.specs.Sorts.{Sort, Boolean, Byte, Short, Int, Reference, NoValue, field_sort, zero_of}
@@ -21,8 +21,8 @@ use Rattle.cjc_world.specs.declared.image.StaticImage.{StaticImage}
 use Rattle.cjc_world.specs.declared.image.ValueCell.{ValueCell}
 use Rattle.cjc_jvm_semantics.specs.Effects.{is_same_field}
 use Rattle.cjc_jvm_semantics.specs.OnePackage.{array_place, cell_of, cells, cells_in, number_place, or_zero}
-use Rattle.cjc_world_proof.specs.Clinit.Fields.{is_cell}
-use Rattle.cjc_world_proof.specs.Clinit.Image.{IsImage, field_id}
+use Rattle.cjc_world_proof.specs.LowerClinit.Fields.{is_cell}
+use Rattle.cjc_world_proof.specs.LowerClinit.Image.{IsImage, field_id}
 use Rattle.cjc_world_proof.specs.Initialisers.Values.{StandOnce}
 use Rattle.cjc_world_proof.proofs.InitialisersLaws.Initialisers.{same-field}
 use Rattle.cjc_world_proof.proofs.InitialisersLaws.Packages.{same-refl}
@@ -30,7 +30,7 @@ use Rattle.cjc_card_semantics.specs.Bytecode.Effects.{HeapObject, Memory, slot_o
 use Rattle.cjc_card_semantics.specs.Bytecode.Renaming.{heap_object_as, memory_as}
 use Rattle.cjc_card_semantics.specs.Machine.Classes.{Class, Field}
 use Rattle.cjc_ncode.specs.PoolOrder.{same_member}
-use Rattle.cjc_components.specs.Narrow.Rows.Package.{first_cell, first_memory}
+use Rattle.cjc_components.specs.LowerNarrow.Rows.Package.{first_cell, first_memory}
 use Rattle.cjc_ncode.specs.Lowering.Agreement.{Cells}
 use Rattle.cjc_token_proof.specs.ByToken.Cells.{HasCells, are_apart, bytes_of, image_of, is_number, is_one_of, letter}
 use Rattle.cjc_token_proof.specs.ByToken.Cells.{letter_by, value_in, value_of}

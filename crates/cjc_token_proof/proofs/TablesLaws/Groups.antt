@@ -6,18 +6,19 @@ use Rattle.std.specs.Ordering.{int_eq}
 use Rattle.std.proofs.lemmas.List.{map-append}
 use Rattle.std.proofs.lemmas.List.Concat.{flat_map-cons}
 use Rattle.cjc_bytes.specs.declared.fault.MemberId.{MemberId}
-use Rattle.cjc_tokens.specs.ClassFile.declared.tree.ClassTree.{ClassTree}
-use Rattle.cjc_tokens.specs.ClassFile.declared.tree.FieldTree.{FieldTree}
+use Rattle.cjc_world.specs.ClassFile.declared.tree.ClassTree.{ClassTree}
+use Rattle.cjc_world.specs.ClassFile.declared.tree.FieldTree.{FieldTree}
 use Rattle.cjc_world.specs.declared.image.ArrayCell.{ArrayCell}
 use Rattle.cjc_world.specs.declared.image.StaticImage.{StaticImage}
 use Rattle.cjc_world.specs.declared.image.ValueCell.{ValueCell}
-use Rattle.cjc_world_proof.specs.Clinit.declared.stage.Held.{Held}
-use Rattle.cjc_world_proof.specs.Clinit.declared.stage.Start.{Start}
-use Rattle.cjc_world_proof.specs.Clinit.declared.stage.Start.TheVariants as starts
-use Rattle.cjc_world_proof.specs.Clinit.Fields.{is_cell}
-use Rattle.cjc_world_proof.specs.Clinit.Image.{field_id, fields_in, held_in, image_of, joined, of_classes, of_fields}
-use Rattle.cjc_world_proof.specs.Clinit.Image.{of_start}
-use Rattle.cjc_world_proof.specs.Clinit.Image.{start_of}
+use Rattle.cjc_world_proof.specs.LowerClinit.declared.stage.Held.{Held}
+use Rattle.cjc_world_proof.specs.LowerClinit.declared.stage.Start.{Start}
+use Rattle.cjc_world_proof.specs.LowerClinit.declared.stage.Start.TheVariants as starts
+use Rattle.cjc_world_proof.specs.LowerClinit.Fields.{is_cell}
+use Rattle.cjc_world_proof.specs.LowerClinit.Image.{field_id, fields_in, held_in, image_of, joined, of_classes}
+use Rattle.cjc_world_proof.specs.LowerClinit.Image.{of_fields}
+use Rattle.cjc_world_proof.specs.LowerClinit.Image.{of_start}
+use Rattle.cjc_world_proof.specs.LowerClinit.Image.{start_of}
 use Rattle.cjc_ncode.specs.PoolOrder.{same_member}
 use Rattle.cjc_token_proof.specs.ByToken.Cells.{are_apart, is_one_of}
 use Rattle.cjc_token_proof.proofs.ByToken.Members.{member_same, member_tells}

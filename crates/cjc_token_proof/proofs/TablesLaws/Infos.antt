@@ -8,14 +8,14 @@ use Rattle.std.proofs.lemmas.Bool.{eqb-true}
 use Rattle.std.proofs.lemmas.Bool.Decides.{nat_tests}
 use Rattle.std.proofs.lemmas.List.Sums.{sum_by-cons}
 use Rattle.std.proofs.lemmas.Option.{slice_get-map}
-use Rattle.cjc_ncode.specs.CapRead.declared.tree.ClassEntry.{ClassEntry}
-use Rattle.cjc_ncode.specs.CapRead.declared.tree.ImplementedInterface.{ImplementedInterface}
-use Rattle.cjc_ncode.specs.CapRead.declared.tree.InterfaceEntry.{InterfaceEntry}
+use Rattle.cjc_card_semantics.specs.CapRead.declared.tree.ClassEntry.{ClassEntry}
+use Rattle.cjc_card_semantics.specs.CapRead.declared.tree.ImplementedInterface.{ImplementedInterface}
+use Rattle.cjc_card_semantics.specs.CapRead.declared.tree.InterfaceEntry.{InterfaceEntry}
 use Rattle.cjc_card_semantics.specs.Machine.Classes.{Info, IsInterface, IsClass, info_of, info_size, infos, map_sizes}
 use Rattle.cjc_card_semantics.specs.Machine.Classes.{number_from, number_named, offset_from}
 use Rattle.cjc_card_semantics.specs.Machine.Loaded.{ClassNames}
-use Rattle.cjc_components.specs.CheckRules.Complete.{class_size, interface_size, map_size}
-use Rattle.cjc_components.specs.CheckRules.Spots.{placed, starts}
+use Rattle.cjc_components.specs.LowerCheckRules.Complete.{class_size, interface_size, map_size}
+use Rattle.cjc_components.specs.LowerCheckRules.Spots.{placed, starts}
 use Rattle.cjc_tokens.proofs.Facts.{position-cons}
 use Rattle.cjc_vtable.proofs.Filed.{Has, behind, get-has}
 use Rattle.cjc_world.specs.Files.{Files}

@@ -8,18 +8,19 @@ use Rattle.std.proofs.lemmas.Option.{slice_get-map, slice_get_within}
 use Rattle.cjc_bytes.specs.declared.fault.MemberId.{MemberId}
 use Rattle.cjc_bytes.proofs.Numbers.{same_place}
 use Rattle.cjc_bytes.proofs.Gets.{set_same, set_other}
-use Rattle.cjc_tokens.specs.ClassFile.declared.tree.ClassTree.{ClassTree}
-use Rattle.cjc_tokens.specs.ClassFile.declared.tree.FieldTree.{FieldTree}
-use Rattle.cjc_tokens.specs.ClassFile.declared.tree.MethodTree.{MethodTree}
-use Rattle.cjc_ncode.specs.Bytecode.declared.method_code.MethodCode.{MethodCode}
+use Rattle.cjc_world.specs.ClassFile.declared.tree.ClassTree.{ClassTree}
+use Rattle.cjc_world.specs.ClassFile.declared.tree.FieldTree.{FieldTree}
+use Rattle.cjc_world.specs.ClassFile.declared.tree.MethodTree.{MethodTree}
+use Rattle.cjc_world_proof.specs.Bytecode.declared.method_code.MethodCode.{MethodCode}
 use Rattle.cjc_world.specs.declared.image.ArrayCell.{ArrayCell}
-use Rattle.cjc_world_proof.specs.Clinit.declared.stage.Held.{Held}
-use Rattle.cjc_world_proof.specs.Clinit.declared.stage.Held.TheVariants as held
-use Rattle.cjc_world_proof.specs.Clinit.Fields.{is_cell}
-use Rattle.cjc_world_proof.specs.Clinit.Image.{AreInitialised, arrays_of, class_where, field_id, if_initialiser}
-use Rattle.cjc_world_proof.specs.Clinit.Image.{initialised}
-use Rattle.cjc_world_proof.specs.Clinit.Image.AreInitialised.{none as no_code, other as other_code, one as one_code}
-use Rattle.cjc_world_proof.specs.Clinit.Initialiser.{is_initialiser, nothing_in, ops_of}
+use Rattle.cjc_world_proof.specs.LowerClinit.declared.stage.Held.{Held}
+use Rattle.cjc_world_proof.specs.LowerClinit.declared.stage.Held.TheVariants as held
+use Rattle.cjc_world_proof.specs.LowerClinit.Fields.{is_cell}
+use Rattle.cjc_world_proof.specs.LowerClinit.Image.{AreInitialised, arrays_of, class_where, field_id, if_initialiser}
+use Rattle.cjc_world_proof.specs.LowerClinit.Image.{initialised}
+use Rattle.cjc_world_proof.specs.LowerClinit.Image.AreInitialised.{none as no_code, other as other_code}
+use Rattle.cjc_world_proof.specs.LowerClinit.Image.AreInitialised.{one as one_code}
+use Rattle.cjc_world_proof.specs.LowerClinit.Initialiser.{is_initialiser, nothing_in, ops_of}
 use Rattle.cjc_world_proof.specs.Initialisers.Values.{StandOnce}
 use Rattle.cjc_token_proof.specs.ByToken.Cells.{are_apart, is_one_of}
 use Rattle.cjc_components.specs.Package.{Package}

@@ -10,15 +10,15 @@ use Rattle.std.proofs.lemmas.List.Folds.{list_any-append}
 use Rattle.std.proofs.lemmas.Option.{slice_get-map}
 use Rattle.cjc_bytes.specs.AccessFlags.{is_interface}
 use Rattle.cjc_bytes.proofs.Lists.{name_is as bytes-refl, bytes_true, map_map}
-use Rattle.cjc_ncode.specs.CapRead.declared.tree.ClassRef.TheVariants.{Inside}
-use Rattle.cjc_tokens.specs.ExportFile.ExportFile.{class_token, token_taken}
-use Rattle.cjc_tokens.specs.ExportFile.Writable.{ClassFits, EachAfter}
-use Rattle.cjc_tokens.specs.ExportFile.declared.tree.ExportClass.{ExportClass}
-use Rattle.cjc_tokens.specs.ExportFile.declared.tree.ExportTree.{ExportTree}
+use Rattle.cjc_card_semantics.specs.CapRead.declared.tree.ClassRef.TheVariants.{Inside}
+use Rattle.cjc_world.specs.ExportFile.ExportFile.{class_token, token_taken}
+use Rattle.cjc_world.specs.ExportFile.Writable.{ClassFits, EachAfter}
+use Rattle.cjc_world.specs.ExportFile.declared.tree.ExportClass.{ExportClass}
+use Rattle.cjc_world.specs.ExportFile.declared.tree.ExportTree.{ExportTree}
 use Rattle.cjc_card_semantics.specs.Machine.Classes.{Class as CardClass, IsInterface, IsClass, Own, External}
 use Rattle.cjc_card_semantics.specs.Machine.Classes.{external_from, infos, number_of, offset_of, or_else, token_named}
 use Rattle.cjc_card_semantics.specs.Machine.Classes.{with_token}
-use Rattle.cjc_vtable.specs.Subset.Members.{imports}
+use Rattle.cjc_world_proof.specs.Subset.Members.{imports}
 use Rattle.cjc_vtable.proofs.Filed.{Has, at_front, behind, get-has, has-get, of-imports}
 use Rattle.cjc_vtable.proofs.SlotNames.{position-at}
 use Rattle.cjc_world.specs.Classes.{Class, class_named, imported}

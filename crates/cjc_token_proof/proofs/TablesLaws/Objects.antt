@@ -9,12 +9,12 @@ use Rattle.std.proofs.lemmas.Grind.{flat_map-append, reverse_onto}
 use Rattle.std.proofs.lemmas.List.Folds.{list_any-append}
 use Rattle.cjc_bytes.specs.AccessFlags.{is_abstract, is_static, is_interface}
 use Rattle.cjc_bytes.specs.declared.fault.MemberId.{MemberId}
-use Rattle.cjc_tokens.specs.ClassFile.declared.tree.ClassTree.{ClassTree}
-use Rattle.cjc_tokens.specs.ClassFile.declared.tree.FieldTree.{FieldTree}
+use Rattle.cjc_world.specs.ClassFile.declared.tree.ClassTree.{ClassTree}
+use Rattle.cjc_world.specs.ClassFile.declared.tree.FieldTree.{FieldTree}
 use Rattle.cjc_card_semantics.specs.Machine.Classes.{Class as CardClass, Info, IsInterface, IsClass, Own, External}
 use Rattle.cjc_card_semantics.specs.Machine.Classes.{class_of, depth, info_of, info_size, infos, offset_from}
 use Rattle.cjc_card_semantics.specs.Machine.Classes.{superclass as superclass_on_card, superclass_by}
-use Rattle.cjc_world_proof.specs.Clinit.Image.{field_id}
+use Rattle.cjc_world_proof.specs.LowerClinit.Image.{field_id}
 use Rattle.cjc_script.specs.Sorts.{field_sort}
 use Rattle.cjc_tokens.specs.Fields.{instance_cells, instance_token, is_instance}
 use Rattle.cjc_vtable.proofs.Filed.{Has, at_front, behind, has-either}

@@ -12,25 +12,25 @@ use Rattle.cjc_bytes.proofs.Numbers.{same_place}
 use Rattle.cjc_bytes.proofs.Options.{option_taken}
 use Rattle.cjc_bytes.proofs.Gets.{set_same, set_other}
 use Rattle.cjc_bytes.specs.declared.descriptor.Kind.TheVariants as kinds
-use Rattle.cjc_tokens.specs.ClassFile.declared.tree.ClassTree.{ClassTree}
-use Rattle.cjc_tokens.specs.ClassFile.declared.tree.FieldTree.{FieldTree}
-use Rattle.cjc_ncode.specs.Bytecode.declared.insn.JOp.{JOp}
+use Rattle.cjc_world.specs.ClassFile.declared.tree.ClassTree.{ClassTree}
+use Rattle.cjc_world.specs.ClassFile.declared.tree.FieldTree.{FieldTree}
+use Rattle.cjc_world_proof.specs.Bytecode.declared.insn.JOp.{JOp}
 use Rattle.cjc_world.specs.declared.found.Found.{Found}
 use Rattle.cjc_world.specs.declared.image.ArrayCell.{ArrayCell}
 use Rattle.cjc_world.specs.declared.image.StaticImage.{StaticImage}
 use Rattle.cjc_world.specs.Classes.{Class, class_named, declared}
 use Rattle.cjc_world.specs.Files.{Files}
 use Rattle.cjc_world.specs.Lookup.{find_field, member_at}
-use Rattle.cjc_world_proof.specs.Clinit.declared.stage.Held.{Held}
-use Rattle.cjc_world_proof.specs.Clinit.declared.stage.Held.TheVariants as held
-use Rattle.cjc_world_proof.specs.Clinit.Fields.{Contents, ANumber, ANull, AnArray, array_desc, fits_kind, held_by}
-use Rattle.cjc_world_proof.specs.Clinit.Fields.{is_cell}
-use Rattle.cjc_world_proof.specs.Clinit.Fields.{is_reference, number_kind, takes}
-use Rattle.cjc_world_proof.specs.Clinit.Image.{array_in, arrays_of, field_id, own_field}
-use Rattle.cjc_world_proof.specs.Clinit.Initialiser.{Initialises, Makes, of_number, of_null, of_array, Put}
-use Rattle.cjc_world_proof.specs.Clinit.Initialiser.{element_kind}
-use Rattle.cjc_world_proof.specs.Clinit.Initialiser.{open_place}
-use Rattle.cjc_world_proof.specs.Clinit.Initialiser.Initialises.{ends, puts}
+use Rattle.cjc_world_proof.specs.LowerClinit.declared.stage.Held.{Held}
+use Rattle.cjc_world_proof.specs.LowerClinit.declared.stage.Held.TheVariants as held
+use Rattle.cjc_world_proof.specs.LowerClinit.Fields.{Contents, ANumber, ANull, AnArray, array_desc, fits_kind, held_by}
+use Rattle.cjc_world_proof.specs.LowerClinit.Fields.{is_cell}
+use Rattle.cjc_world_proof.specs.LowerClinit.Fields.{is_reference, number_kind, takes}
+use Rattle.cjc_world_proof.specs.LowerClinit.Image.{array_in, arrays_of, field_id, own_field}
+use Rattle.cjc_world_proof.specs.LowerClinit.Initialiser.{Initialises, Makes, of_number, of_null, of_array, Put}
+use Rattle.cjc_world_proof.specs.LowerClinit.Initialiser.{element_kind}
+use Rattle.cjc_world_proof.specs.LowerClinit.Initialiser.{open_place}
+use Rattle.cjc_world_proof.specs.LowerClinit.Initialiser.Initialises.{ends, puts}
 use Rattle.cjc_world_proof.proofs.InitialisersLaws.Places.{IsField, place-field}
 use Rattle.cjc_ncode.specs.PoolOrder.{same_member}
 use Rattle.cjc_token_proof.specs.ByToken.Cells.{are_apart, is_one_of}

@@ -2,11 +2,11 @@
 use Rattle.std.proofs.Common.{◌≡◌, ℕ, ap, ◌∙◌, true, List, [], ◌∷◌, ◌++◌, inl, inr, ⊎_elim, Some}
 use Rattle.std.specs.Prelude.{◌⊎◌, slice_get}
 use Rattle.cjc_world.proofs.ExportFileRooted.{has_root, root_there}
-use Rattle.cjc_tokens.specs.ExportFile.Root.{object}
-use Rattle.cjc_tokens.specs.ExportFile.Writable.{ClassFits, EachAfter, IsWritable}
-use Rattle.cjc_tokens.specs.ExportFile.declared.tree.ExportClass.{ExportClass}
-use Rattle.cjc_tokens.specs.ExportFile.declared.tree.ExportTree.{ExportTree}
-use Rattle.cjc_vtable.specs.Subset.Members.{imports}
+use Rattle.cjc_world.specs.ExportFile.Root.{object}
+use Rattle.cjc_world.specs.ExportFile.Writable.{ClassFits, EachAfter, IsWritable}
+use Rattle.cjc_world.specs.ExportFile.declared.tree.ExportClass.{ExportClass}
+use Rattle.cjc_world.specs.ExportFile.declared.tree.ExportTree.{ExportTree}
+use Rattle.cjc_world_proof.specs.Subset.Members.{imports}
 use Rattle.cjc_vtable.proofs.Filed.{Has, at_front, behind, get-has, has-get, of-imports}
 use Rattle.cjc_world.specs.Files.{Files}
 use Rattle.cjc_bytes.proofs.Lists.{bytes_true}

@@ -7,7 +7,7 @@ use Rattle.std.specs.Str.{bytes_eq}
 use Rattle.std.proofs.lemmas.Bool.{eqb-true}
 use Rattle.std.proofs.lemmas.Bool.Decides.{nat_tests}
 use Rattle.std.proofs.lemmas.List.Sums.{sum_by-cons}
-use Rattle.cjc_tokens.specs.ClassFile.declared.tree.FieldTree.{FieldTree}
+use Rattle.cjc_world.specs.ClassFile.declared.tree.FieldTree.{FieldTree}
 use Rattle.cjc_tokens.specs.Fields.{cells, cells_of, group, instance_cells, instance_token, is_instance, is_reference}
 use Rattle.cjc_tokens.specs.Members.{is_exposed}
 use Rattle.cjc_components.specs.Class.{first_reference_token, is_reference_field, reference_count}

@@ -8,20 +8,21 @@ use Rattle.std.specs.Ordering.{int_eq}
 use Rattle.std.proofs.lemmas.List.{map-append}
 use Rattle.std.proofs.lemmas.List.Concat.{flat_map-cons}
 use Rattle.cjc_bytes.specs.declared.fault.MemberId.{MemberId}
-use Rattle.cjc_tokens.specs.ClassFile.declared.tree.ClassTree.{ClassTree}
-use Rattle.cjc_tokens.specs.ClassFile.declared.tree.FieldTree.{FieldTree}
-use Rattle.cjc_ncode.specs.Bytecode.declared.method_code.MethodCode.{MethodCode}
+use Rattle.cjc_world.specs.ClassFile.declared.tree.ClassTree.{ClassTree}
+use Rattle.cjc_world.specs.ClassFile.declared.tree.FieldTree.{FieldTree}
+use Rattle.cjc_world_proof.specs.Bytecode.declared.method_code.MethodCode.{MethodCode}
 use Rattle.cjc_card_semantics.specs.Machine.ByToken.{letter_of, shown_cell, shown_cells}
 use Rattle.cjc_card_semantics.specs.Machine.Loaded.{CellName}
 use Rattle.cjc_script.specs.Sorts.{Sort, Boolean, Byte, Short, Int, Reference, NoValue, field_sort}
 use Rattle.cjc_world.specs.declared.image.ArrayCell.{ArrayCell}
-use Rattle.cjc_world_proof.specs.Clinit.declared.stage.Held.{Held}
-use Rattle.cjc_world_proof.specs.Clinit.declared.stage.Held.TheVariants as held
-use Rattle.cjc_world_proof.specs.Clinit.declared.stage.Start.{Start}
-use Rattle.cjc_world_proof.specs.Clinit.declared.stage.Start.TheVariants as starts
-use Rattle.cjc_world_proof.specs.Clinit.Fields.{is_cell, is_reference, number_kind}
-use Rattle.cjc_world_proof.specs.Clinit.Image.{IsImage, field_id, fields_in, held_in, start_by, start_of, value_or_zero}
-use Rattle.cjc_world_proof.specs.Clinit.Initialiser.{nothing_in}
+use Rattle.cjc_world_proof.specs.LowerClinit.declared.stage.Held.{Held}
+use Rattle.cjc_world_proof.specs.LowerClinit.declared.stage.Held.TheVariants as held
+use Rattle.cjc_world_proof.specs.LowerClinit.declared.stage.Start.{Start}
+use Rattle.cjc_world_proof.specs.LowerClinit.declared.stage.Start.TheVariants as starts
+use Rattle.cjc_world_proof.specs.LowerClinit.Fields.{is_cell, is_reference, number_kind}
+use Rattle.cjc_world_proof.specs.LowerClinit.Image.{IsImage, field_id, fields_in, held_in, start_by, start_of}
+use Rattle.cjc_world_proof.specs.LowerClinit.Image.{value_or_zero}
+use Rattle.cjc_world_proof.specs.LowerClinit.Initialiser.{nothing_in}
 use Rattle.cjc_ncode.specs.ByLabel.{shown_slot}
 use Rattle.cjc_ncode.specs.PoolOrder.{same_member}
 use Rattle.cjc_ncode.specs.Lowering.Agreement.{Cells}

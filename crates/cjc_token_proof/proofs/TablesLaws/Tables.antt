@@ -14,18 +14,18 @@ use Rattle.cjc_card_semantics.specs.Machine.ByToken as ByToken
 use Rattle.cjc_card_semantics.specs.Machine.Classes.{IsInterface, IsClass, Own, class_of, is_interface_file}
 use Rattle.cjc_card_semantics.specs.Machine.Classes.{is_interface_info}
 use Rattle.cjc_card_semantics.specs.Machine.Classes as card
-use Rattle.cjc_ncode.specs.Bytecode.declared.method_code.MethodCode.{MethodCode}
+use Rattle.cjc_world_proof.specs.Bytecode.declared.method_code.MethodCode.{MethodCode}
 use Rattle.cjc_script.specs.Sorts.{Shape, OfClass, OfNumbers, OfReferences}
 use Rattle.cjc_world.specs.Classes.{Class, class_named}
 use Rattle.cjc_world.specs.Subtype.{is_subtype}
 use Rattle.cjc_world.proofs.Cycles.{class_named-name}
 use Rattle.cjc_jvm_semantics.specs.Linked.{Method}
 use Rattle.cjc_jvm_semantics.specs.OnePackage.{is_made, is_plain_import, made_of, object_fields}
-use Rattle.cjc_world_proof.specs.Clinit.Image.{IsImage}
+use Rattle.cjc_world_proof.specs.LowerClinit.Image.{IsImage}
 use Rattle.cjc_ncode.specs.ByLabel.{Callee, Named, shown_slot}
 use Rattle.cjc_ncode.specs.declared.narrow.NMethod.{NMethod}
-use Rattle.cjc_components.specs.Narrow.Rows.Package.{name_there, named, named_by, plain_import}
-use Rattle.cjc_components.specs.Narrow.Rows.Package as narrow
+use Rattle.cjc_components.specs.LowerNarrow.Rows.Package.{name_there, named, named_by, plain_import}
+use Rattle.cjc_components.specs.LowerNarrow.Rows.Package as narrow
 use Rattle.cjc_ncode.specs.Lowering.Agreement.{known_by}
 use Rattle.cjc_ncode.specs.Lowering.Naming.{IsClass as MeansClass}
 use Rattle.cjc_world_proof.specs.Initialisers.Values.{StandOnce}

@@ -14,7 +14,7 @@ use Rattle.cjc_bytes.specs.declared.descriptor.Kind.{Kind}
 use Rattle.cjc_bytes.specs.declared.descriptor.Kind.TheVariants as kinds
 use Rattle.cjc_bytes.proofs.DescriptorTypes.{desc_read, desc_spelt}
 use Rattle.cjc_card_semantics.specs.Machine.ByToken.{letter_of}
-use Rattle.cjc_ncode.specs.Bytecode.declared.method_code.MethodCode.{MethodCode}
+use Rattle.cjc_world_proof.specs.Bytecode.declared.method_code.MethodCode.{MethodCode}
 use Rattle.cjc_bytes.specs.AccessFlags.{is_interface}
 use Rattle.cjc_bytes.specs.declared.settings.Settings.{Settings}
 use Rattle.cjc_bytes.proofs.Gets.{all_but_last}
@@ -25,15 +25,15 @@ use Rattle.cjc_bytes.proofs.Bools.{or_left}
 use Rattle.cjc_bytes.proofs.Numbers.{first_byte}
 use Rattle.cjc_script.specs.Sorts.{OfClass, OfReferences, array_by, array_of, reference_to, shape_named, sort_by}
 use Rattle.cjc_script.specs.Sorts.{sort_of, sort_or_none}
-use Rattle.cjc_vtable.specs.Subset.Checks.{check_breaks, class_breaks, code_breaks, field_breaks, list_breaks}
-use Rattle.cjc_vtable.specs.Subset.Checks.{method_breaks}
-use Rattle.cjc_vtable.specs.Subset.Checks.{own_breaks}
-use Rattle.cjc_vtable.specs.Subset.Flags.{is_unfit_field}
-use Rattle.cjc_vtable.specs.Subset.Overriding.{overriding_breaks}
-use Rattle.cjc_vtable.specs.Subset.Places.{at_field}
-use Rattle.cjc_vtable.specs.Subset.Types.{is_any_unsupported, is_unsupported_desc, is_unsupported_element}
-use Rattle.cjc_vtable.specs.Subset.Types.{is_unsupported_name}
-use Rattle.cjc_vtable.specs.Subset.Types.{is_unsupported_part, is_int_desc, is_other}
+use Rattle.cjc_world_proof.specs.Subset.Checks.{check_breaks, class_breaks, code_breaks, field_breaks, list_breaks}
+use Rattle.cjc_world_proof.specs.Subset.Checks.{method_breaks}
+use Rattle.cjc_world_proof.specs.Subset.Checks.{own_breaks}
+use Rattle.cjc_world_proof.specs.Subset.Flags.{is_unfit_field}
+use Rattle.cjc_world_proof.specs.Subset.Overriding.{overriding_breaks}
+use Rattle.cjc_world_proof.specs.Subset.Places.{at_field}
+use Rattle.cjc_world_proof.specs.Subset.Types.{is_any_unsupported, is_unsupported_desc, is_unsupported_element}
+use Rattle.cjc_world_proof.specs.Subset.Types.{is_unsupported_name}
+use Rattle.cjc_world_proof.specs.Subset.Types.{is_unsupported_part, is_int_desc, is_other}
 use Rattle.cjc_tokens.specs.Fields.{is_reference}
 use Rattle.cjc_token_proof.specs.ByToken.Objects.{is_reference as is_reference_sort}
 use Rattle.cjc_world.specs.Files.{Files}

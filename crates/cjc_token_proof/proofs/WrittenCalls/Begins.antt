@@ -4,8 +4,8 @@ use Rattle.std.proofs.Common.{◌∷◌, ◌++◌}
 use Rattle.std.specs.Prelude.{Option, Some, None, slice_get, map, not, ◌&&◌, ◌||◌, ◌==◌, if◌then◌else◌}
 use Rattle.std.specs.List.{list_any}
 use Rattle.std.proofs.lemmas.Bool.Decides.{nat_tests}
-use Rattle.cjc_ncode.specs.CapRead.declared.tree.ClassDescriptor.{ClassDescriptor}
-use Rattle.cjc_ncode.specs.CapRead.declared.tree.MethodDescriptor.{MethodDescriptor}
+use Rattle.cjc_card_semantics.specs.CapRead.declared.tree.ClassDescriptor.{ClassDescriptor}
+use Rattle.cjc_card_semantics.specs.CapRead.declared.tree.MethodDescriptor.{MethodDescriptor}
 use Rattle.cjc_token_proof.specs.Calls.Reaching.{is_same}
 use Rattle.cjc_card_semantics.specs.Machine.Classes.{or_else}
 use Rattle.cjc_card_semantics.specs.Machine.Methods.{described, is_class_at, method_among}

@@ -16,9 +16,9 @@ use Rattle.cjc_jvm_semantics.specs.OnePackage.{ResolvedMember, entry_in, entry_n
 use Rattle.cjc_jvm_semantics.specs.OnePackage.{method_hit, method_in as method_in_file}
 use Rattle.cjc_token_proof.proofs.ByToken.Members.{bytes_tell}
 use Rattle.cjc_token_proof.specs.Calls.Reaching.{BeginsAtOffsets, is_in_method, start_placed}
-use Rattle.cjc_ncode.specs.CapRead.declared.tree.ClassDescriptor.{ClassDescriptor}
-use Rattle.cjc_ncode.specs.CapRead.declared.tree.MethodDescriptor.{MethodDescriptor}
-use Rattle.cjc_ncode.specs.CapRead.ClassRefs.{is_inside}
+use Rattle.cjc_card_semantics.specs.CapRead.declared.tree.ClassDescriptor.{ClassDescriptor}
+use Rattle.cjc_card_semantics.specs.CapRead.declared.tree.MethodDescriptor.{MethodDescriptor}
+use Rattle.cjc_card_semantics.specs.CapRead.ClassRefs.{is_inside}
 use Rattle.cjc_card_semantics.specs.Machine.Calls.{called, class_among, declared, has_no_token}
 use Rattle.cjc_card_semantics.specs.Machine.Calls.{is_named, named_among, named_in_part, static_start}
 use Rattle.cjc_card_semantics.specs.Machine.Classes.{number_of}

@@ -6,7 +6,7 @@ use Rattle.std.specs.List.{list_any}
 use Rattle.cjc_components.specs.Methods.{Extent, extent_at, extent_from, header_of, is_member, method_size, placed_at}
 use Rattle.cjc_components.specs.Methods.{placed_from, with_abstract, handler_count}
 use Rattle.cjc_components.specs.Package.{LaidMethod}
-use Rattle.cjc_components.specs.Emit.Emitted.{is_short}
+use Rattle.cjc_components.specs.LowerEmit.Emitted.{is_short}
 use Rattle.cjc_ncode.specs.Lowering.Placed.{short_header, extended_header}
 use Rattle.cjc_ncode.specs.declared.narrow.NMethod.{NMethod}
 use Rattle.cjc_world.specs.declared.found.Found.{Found}

@@ -5,10 +5,10 @@ use Rattle.std.specs.Prelude.{length, ◌+◌, ◌≡◌, ℕ, ◌<◌, List, []
 use Rattle.cjc_bytes.specs.AccessFlags.{is_interface, is_static}
 use Rattle.cjc_components.specs.Methods.{method_offset}
 use Rattle.cjc_components.specs.Package.{Package, world}
-use Rattle.cjc_tokens.specs.ExportFile.declared.tree.ExportClass.{ExportClass}
-use Rattle.cjc_tokens.specs.ExportFile.declared.tree.ExportMethod.{ExportMethod}
-use Rattle.cjc_tokens.specs.ExportFile.Supers.{classes_of}
-use Rattle.cjc_tokens.specs.ExportFile.Supers as exports
+use Rattle.cjc_world.specs.ExportFile.declared.tree.ExportClass.{ExportClass}
+use Rattle.cjc_world.specs.ExportFile.declared.tree.ExportMethod.{ExportMethod}
+use Rattle.cjc_world.specs.ExportFile.Supers.{classes_of}
+use Rattle.cjc_world.specs.ExportFile.Supers as exports
 use Rattle.cjc_token_proof.specs.Tables.Infos.{HasEntry, HasInfo}
 use Rattle.cjc_tokens.specs.Members.{is_initialiser}
 use Rattle.cjc_vtable.specs.Laws.{InterfaceCallsAgree, KeepsInterfaces, KeepsRules, TokensAreOnce, VirtualCallsAgree}

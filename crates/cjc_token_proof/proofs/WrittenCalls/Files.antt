@@ -17,10 +17,10 @@ use Rattle.cjc_token_proof.specs.Calls.Dispatching.{SaysFile, event}
 use Rattle.cjc_card_semantics.specs.Machine.Dispatch.{Outward, dispatched_outward, exported_line, in_files, outward}
 use Rattle.cjc_components.specs.Names.{class_at as card_class}
 use Rattle.cjc_components.specs.Package.{Package, world}
-use Rattle.cjc_tokens.specs.ExportFile.declared.tree.ExportClass.{ExportClass}
-use Rattle.cjc_tokens.specs.ExportFile.declared.tree.ExportMethod.{ExportMethod}
-use Rattle.cjc_tokens.specs.ExportFile.Supers.{IsAtOrAbove, at, above, is_one_of, upwards, virtual_method}
-use Rattle.cjc_tokens.specs.ExportFile.Supers as exports
+use Rattle.cjc_world.specs.ExportFile.declared.tree.ExportClass.{ExportClass}
+use Rattle.cjc_world.specs.ExportFile.declared.tree.ExportMethod.{ExportMethod}
+use Rattle.cjc_world.specs.ExportFile.Supers.{IsAtOrAbove, at, above, is_one_of, upwards, virtual_method}
+use Rattle.cjc_world.specs.ExportFile.Supers as exports
 use Rattle.cjc_world.proofs.ExportFileUpwards.{all_found, each_own, found_is}
 use Rattle.cjc_token_proof.specs.Tables.Infos.{HasEntry}
 use Rattle.cjc_token_proof.specs.Tables.Loading.{loaded, naming}

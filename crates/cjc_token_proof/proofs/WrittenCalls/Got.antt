@@ -16,11 +16,11 @@ use Rattle.cjc_bytes.proofs.Quantified.{any_both}
 use Rattle.cjc_jvm_semantics.specs.OnePackage.{method_at, method_by, method_in}
 use Rattle.cjc_token_proof.proofs.ByToken.Members.{bytes_tell}
 use Rattle.cjc_token_proof.specs.Calls.Reaching.{is_in_method, is_same}
-use Rattle.cjc_tokens.specs.ClassFile.declared.tree.MethodTree.{MethodTree}
+use Rattle.cjc_world.specs.ClassFile.declared.tree.MethodTree.{MethodTree}
 use Rattle.cjc_components.specs.Descriptor.{as_added, methods_with_added, no_member}
 use Rattle.cjc_components.specs.Package.{Package, world}
 use Rattle.cjc_components.specs.Written.{added_words}
-use Rattle.cjc_components.specs.Narrow.Rows.Resolved.{argument_words, parameter_words}
+use Rattle.cjc_components.specs.LowerNarrow.Rows.Resolved.{argument_words, parameter_words}
 use Rattle.cjc_script.specs.Sorts as sorts
 use Rattle.cjc_token_proof.specs.Tables.Sound.{IsSound}
 use Rattle.cjc_token_proof.proofs.TablesLaws.Clean.{has_named}

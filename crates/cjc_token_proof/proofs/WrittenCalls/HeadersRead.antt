@@ -1,12 +1,12 @@
 -- Headers are read as their methods say, those of abstract methods too.
 use Rattle.std.proofs.Common.{◌≡◌, ℕ, ◌+◌, ◌*◌, ◌/◌, ◌%◌, ◌<◌, refl, ap, ◌∙◌, arith, Bool, true, false, List, ◌∷◌}
 use Rattle.std.specs.Prelude.{Some, ◌==◌, nat_lt, if◌then◌else◌}
-use Rattle.cjc_ncode.specs.CapRead.MethodHeader.{is_extended, is_abstract, short_header, extended_header}
-use Rattle.cjc_ncode.specs.CapRead.MethodHeader.{method_header}
+use Rattle.cjc_card_semantics.specs.CapRead.MethodHeader.{is_extended, is_abstract, short_header, extended_header}
+use Rattle.cjc_card_semantics.specs.CapRead.MethodHeader.{method_header}
 use Rattle.cjc_card_semantics.proofs.CapReadHeaders.{short_read}
 use Rattle.cjc_components.specs.Methods.{header_of, in_table_order, with_abstract}
 use Rattle.cjc_components.specs.Package.{LaidMethod}
-use Rattle.cjc_components.specs.Emit.Emitted.{is_short}
+use Rattle.cjc_components.specs.LowerEmit.Emitted.{is_short}
 use Rattle.cjc_ncode.specs.Lowering.Placed as placed
 use Rattle.cjc_ncode.specs.Lowering.Placed.{IsHeader}
 use Rattle.cjc_ncode.specs.declared.narrow.NMethod.{NMethod}

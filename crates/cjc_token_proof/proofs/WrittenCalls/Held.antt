@@ -6,9 +6,9 @@ use Rattle.std.proofs.lemmas.List.Sums.{sum_by-cons}
 use Rattle.cjc_components.specs.Methods.{bytecode_count, first_method, handler_count, header_of, method_size, placed_at}
 use Rattle.cjc_components.specs.Methods.{placed_from, placed_methods}
 use Rattle.cjc_components.specs.Package.{LaidMethod, Package}
-use Rattle.cjc_components.specs.Layout.Forms.{HasForm}
-use Rattle.cjc_components.specs.Layout.Handlers.{table_order}
-use Rattle.cjc_components.specs.Layout.Sizes as sizes
+use Rattle.cjc_components.specs.LowerLayout.Forms.{HasForm}
+use Rattle.cjc_components.specs.LowerLayout.Handlers.{table_order}
+use Rattle.cjc_components.specs.LowerLayout.Sizes as sizes
 use Rattle.cjc_ncode.specs.Lowering.Handlers.{handlers_of}
 use Rattle.cjc_ncode.specs.Lowering.Laid.{IsFormed}
 use Rattle.cjc_ncode.specs.Lowering.Naming.{Naming}

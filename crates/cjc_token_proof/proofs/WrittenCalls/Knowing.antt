@@ -17,7 +17,7 @@ use Rattle.cjc_components.specs.Methods.{placed_methods}
 use Rattle.cjc_components.specs.Package.{Package, world}
 use Rattle.cjc_ncode.specs.Lowering.Agreement.{IsAmong}
 use Rattle.cjc_ncode.specs.Lowering.Placed.{Placed}
-use Rattle.cjc_components.specs.Narrow.Rows.Package.{above, class_of_callee, direct, selected_on}
+use Rattle.cjc_components.specs.LowerNarrow.Rows.Package.{above, class_of_callee, direct, selected_on}
 use Rattle.cjc_ncode.specs.ByLabel.{Callee, Fixed, OnInterface, OnObject, OnSuper}
 use Rattle.cjc_script.specs.Sorts.{Booleans, Bytes, Shorts, Ints, Shape, shape_name}
 use Rattle.cjc_token_proof.specs.Tables.Loading.{naming}

@@ -2,11 +2,11 @@
 use Rattle.cjc_world.specs.Lookup.{is_called, member_at, own_method}
 use Rattle.cjc_world.specs.Rules.{is_twice}
 use Rattle.cjc_bytes.specs.declared.fault.MemberId.{MemberId}
-use Rattle.cjc_tokens.specs.ClassFile.Code.{CodeTree}
-use Rattle.cjc_tokens.specs.ClassFile.declared.tree.ClassTree.{ClassTree}
+use Rattle.cjc_world.specs.ClassFile.Code.{CodeTree}
+use Rattle.cjc_world.specs.ClassFile.declared.tree.ClassTree.{ClassTree}
 use Rattle.cjc_token_proof.proofs.TablesLaws.Fields.{first_here}
 use Rattle.std.proofs.lemmas.List.{length-map}
-use Rattle.cjc_tokens.specs.ClassFile.declared.tree.MethodTree.{MethodTree}
+use Rattle.cjc_world.specs.ClassFile.declared.tree.MethodTree.{MethodTree}
 use Rattle.cjc_jvm_semantics.specs.OnePackage.{method_at, method_by, method_in}
 use Rattle.cjc_jvm_semantics.specs.Linked.{Method}
 use Rattle.std.proofs.Common.{◌≡◌, ℕ, zero, suc, refl, sym, ap, subst, ◌∙◌, arith, Bool, true, false, List, [], ◌∷◌}
@@ -22,9 +22,9 @@ use Rattle.cjc_card_semantics.specs.Machine.Methods.{is_class_at, is_class_info}
 use Rattle.cjc_components.specs.Class.{class_entry, interface_entry}
 use Rattle.cjc_components.specs.Names.{class_ref}
 use Rattle.cjc_components.specs.Package.{Package, world}
-use Rattle.cjc_tokens.specs.ExportFile.declared.tree.ExportClass.{ExportClass}
-use Rattle.cjc_tokens.specs.ExportFile.Supers.{classes_of}
-use Rattle.cjc_tokens.specs.ExportFile.Supers as exports
+use Rattle.cjc_world.specs.ExportFile.declared.tree.ExportClass.{ExportClass}
+use Rattle.cjc_world.specs.ExportFile.Supers.{classes_of}
+use Rattle.cjc_world.specs.ExportFile.Supers as exports
 use Rattle.cjc_token_proof.specs.Tables.Loading.{part}
 use Rattle.cjc_token_proof.specs.Tables.Sound.{IsSound}
 use Rattle.cjc_token_proof.proofs.TablesLaws.Above.{class_there, entry_of_name, info_of_name, rules_of}

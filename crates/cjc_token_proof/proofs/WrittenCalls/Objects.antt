@@ -1,8 +1,8 @@
 -- Whether a call has a receiver is the same by name and by token.
 use Rattle.std.proofs.Common.{◌≡◌, refl, Bool}
 use Rattle.cjc_bytes.specs.declared.fault.MemberId.{MemberId}
-use Rattle.cjc_ncode.specs.CapRead.declared.tree.StaticRef.{StaticRef}
-use Rattle.cjc_ncode.specs.CapRead.declared.tree.StaticRef.TheVariants as refs
+use Rattle.cjc_card_semantics.specs.CapRead.declared.tree.StaticRef.{StaticRef}
+use Rattle.cjc_card_semantics.specs.CapRead.declared.tree.StaticRef.TheVariants as refs
 use Rattle.cjc_card_semantics.specs.Machine.Calls.{on_object}
 use Rattle.cjc_components.specs.Names.{fixed_as, method_ref}
 use Rattle.cjc_components.specs.Package.{Package}

@@ -17,7 +17,7 @@ use Rattle.cjc_ncode.specs.Lowering.Agreement.{IsAmong}
 use Rattle.cjc_ncode.specs.Lowering.Placed.{IsListed, Placed, start_on_card}
 use Rattle.cjc_ncode.proofs.LoweringLaws.Beginning.{begins}
 use Rattle.cjc_ncode.proofs.LoweringLaws.Packed.{bytes_stand}
-use Rattle.cjc_components.specs.Narrow.Rows.Selected.{near_fields}
+use Rattle.cjc_components.specs.LowerNarrow.Rows.Selected.{near_fields}
 use Rattle.cjc_ncode.specs.PoolOrder.{same_member}
 use Rattle.cjc_world.specs.declared.found.Found.{Found}
 use Rattle.cjc_world.specs.Order.{method_order}

@@ -30,7 +30,7 @@ use Rattle.cjc_ncode.specs.Lowering.Naming.{callee}
 use Rattle.cjc_ncode.specs.Lowering.Placed.{Placed, code_of, offset_of}
 use Rattle.cjc_ncode.specs.ByLabel.{Callee, Fixed, OnInterface, OnObject, OnSuper}
 use Rattle.cjc_jvm_semantics.specs.Linked.{Method}
-use Rattle.cjc_components.specs.Narrow.Rows.Package.{selected_on}
+use Rattle.cjc_components.specs.LowerNarrow.Rows.Package.{selected_on}
 use Rattle.cjc_components.specs.Paired.Naming.{signature_name}
 use Rattle.cjc_script.specs.Sorts.{Element, Booleans, Bytes, Shorts, Ints, Shape, OfClass, OfNumbers, OfReferences}
 use Rattle.cjc_script.specs.Sorts.{array_name, shape_name}

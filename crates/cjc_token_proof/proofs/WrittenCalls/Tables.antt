@@ -12,7 +12,7 @@ use Rattle.cjc_components.specs.Class.{class_entry, interface_entry}
 use Rattle.cjc_components.specs.Methods.{method_offset}
 use Rattle.cjc_components.specs.Names.{class_at, class_ref, ref_to}
 use Rattle.cjc_components.specs.Package.{Package, world}
-use Rattle.cjc_tokens.specs.ExportFile.declared.tree.ExportTree.{ExportTree}
+use Rattle.cjc_world.specs.ExportFile.declared.tree.ExportTree.{ExportTree}
 use Rattle.cjc_ncode.specs.Lowering.Naming.{IsClass as Means}
 use Rattle.cjc_components.specs.Paired.Naming.{files_from}
 use Rattle.cjc_token_proof.specs.Tables.Infos.{HasEntry, HasInfo}

@@ -19,16 +19,16 @@ use Rattle.cjc_card_semantics.specs.Machine.Calls as card
 use Rattle.cjc_card_semantics.specs.Machine.Dispatch.{At, Outward, dispatched, tower}
 use Rattle.cjc_card_semantics.specs.Machine.Methods.{Code, start_of}
 use Rattle.cjc_card_semantics.specs.Machine.Operations as operations
-use Rattle.cjc_ncode.specs.Bytecode.declared.method_code.MethodCode.{MethodCode}
+use Rattle.cjc_world_proof.specs.Bytecode.declared.method_code.MethodCode.{MethodCode}
 use Rattle.cjc_components.specs.Methods.{method_offset, placed_at}
 use Rattle.cjc_components.specs.Package.{LaidMethod, Package, pool, world}
 use Rattle.cjc_components.specs.Written.{IsPackage, added_words, code_by}
-use Rattle.cjc_components.specs.List.Listed.{ListTree}
+use Rattle.cjc_components.specs.LowerList.Listed.{ListTree}
 use Rattle.cjc_ncode.specs.Lowering.Naming.{Naming, callee}
 use Rattle.cjc_ncode.specs.Lowering.Placed.{Placed, start_on_card}
-use Rattle.cjc_components.specs.Narrow.Rows.Package.{flags_of, words, words_where, words_with}
-use Rattle.cjc_components.specs.Narrow.Rows.Resolved.{argument_words, method_found, parameter_words}
-use Rattle.cjc_components.specs.Narrow.Rows.Selected.{near_fields}
+use Rattle.cjc_components.specs.LowerNarrow.Rows.Package.{flags_of, words, words_where, words_with}
+use Rattle.cjc_components.specs.LowerNarrow.Rows.Resolved.{argument_words, method_found, parameter_words}
+use Rattle.cjc_components.specs.LowerNarrow.Rows.Selected.{near_fields}
 use Rattle.cjc_ncode.specs.declared.narrow.NMethod.{NMethod}
 use Rattle.cjc_ncode.specs.ByLabel.{Callee, Fixed, OnObject, OnSuper}
 use Rattle.cjc_script.specs.Sorts.{Signature, signature_of}

@@ -3,12 +3,12 @@ use Rattle.std.proofs.Common.{◌≡◌, ℕ, zero, suc, ◌+◌, ◌<◌, refl,
 use Rattle.std.specs.Prelude.{Option, sum_by, if◌then◌else◌}
 use Rattle.std.proofs.lemmas.List.Sums.{sum_by-cons}
 use Rattle.cjc_jvm_semantics.specs.Linked.{Method}
-use Rattle.cjc_ncode.specs.Bytecode.declared.method_code.MethodCode.{MethodCode}
+use Rattle.cjc_world_proof.specs.Bytecode.declared.method_code.MethodCode.{MethodCode}
 use Rattle.cjc_components.specs.Methods.{extent_at, extent_from, first_method, handler_count, is_member, method_offset}
 use Rattle.cjc_components.specs.Methods.{method_size}
 use Rattle.cjc_components.specs.Package.{LaidMethod, Package}
 use Rattle.cjc_components.specs.Written.{IsPackage, is_abstract_at}
-use Rattle.cjc_components.specs.List.Listed.{ListTree}
+use Rattle.cjc_components.specs.LowerList.Listed.{ListTree}
 use Rattle.cjc_world.specs.declared.found.Found.{Found}
 use Rattle.cjc_world.specs.Classes.{all_classes}
 use Rattle.cjc_world.specs.Files.{Files}

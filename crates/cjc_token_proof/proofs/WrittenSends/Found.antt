@@ -444,17 +444,17 @@ module _ (list : List ℕ) (p : Package) (sound : IsSound list p.files) (facts :
       supers_are : h.entry.supers ≡ c.supers
       supers_are = ap (λ (q : Class). q.supers) (sym h.class)
 
-      entry_plain : (j : ℕ) (m : Rattle.cjc_tokens.specs.ExportFile.declared.tree.ExportMethod.ExportMethod)
+      entry_plain : (j : ℕ) (m : Rattle.cjc_world.specs.ExportFile.declared.tree.ExportMethod.ExportMethod)
           → slice_get h.entry.methods j ≡ Some m → members.is_initialiser m.name ≡ true → is_static m.flags ≡ true
       entry_plain = Rattle.cjc_token_proof.proofs.WrittenCalls.Files.entry_plain p facts x c known import
 
       listed : token_in_files (exported_line n.loaded (Some h.entry)) id ≡ classes_token id (c
           ∷ upwards (supertypes w c.supers))
       listed =
-          ap (λ o. or_else o (token_in_files (Rattle.cjc_tokens.specs.ExportFile.Supers.upwards
+          ap (λ o. or_else o (token_in_files (Rattle.cjc_world.specs.ExportFile.Supers.upwards
           (exported p) h.entry.supers) id))
           (listed_is id h.number h.entry entry_plain ∙ ap (class_token id) (sym h.class))
-          ∙ ap (λ ss. or_else (class_token id c) (token_in_files (Rattle.cjc_tokens.specs.ExportFile.Supers.upwards
+          ∙ ap (λ ss. or_else (class_token id c) (token_in_files (Rattle.cjc_world.specs.ExportFile.Supers.upwards
           (exported p)
           ss) id)) supers_are
           ∙ ap (or_else (class_token id c)) (upwards_token p facts id c.supers (λ y d l e. facts.rules.apart x y c d

@@ -28,8 +28,8 @@ use Rattle.cjc_card_semantics.specs.Machine.Loaded.{ClassNames, Loaded, MethodNa
 use Rattle.cjc_components.specs.Methods.{method_offset}
 use Rattle.cjc_components.specs.Names.{class_at as card_class}
 use Rattle.cjc_components.specs.Package.{Package, world}
-use Rattle.cjc_tokens.specs.ExportFile.declared.tree.ExportClass.{ExportClass}
-use Rattle.cjc_tokens.specs.ExportFile.declared.tree.ExportMethod.{ExportMethod}
+use Rattle.cjc_world.specs.ExportFile.declared.tree.ExportClass.{ExportClass}
+use Rattle.cjc_world.specs.ExportFile.declared.tree.ExportMethod.{ExportMethod}
 use Rattle.cjc_ncode.specs.Lowering.Naming.{Naming}
 use Rattle.cjc_ncode.specs.Lowering.Placed.{Placed}
 use Rattle.cjc_script.specs.Sorts.{OfClass}
@@ -188,7 +188,7 @@ listed_any : (ms : List ExportMethod) (y : List ℕ) (id : MemberId) → listed_
     ≡ listed_token ms id
 listed_any [] y id = refl
 listed_any (m ∷ ms) y id = ap (λ o. if bytes_eq m.name id.name && bytes_eq m.desc id.desc
-    then Some (if Rattle.cjc_tokens.specs.ExportFile.Supers.is_virtual m then Some m.token else None) else o)
+    then Some (if Rattle.cjc_world.specs.ExportFile.Supers.is_virtual m then Some m.token else None) else o)
     (listed_any ms y id)
 
 token_any : (l : Loaded) (k : card.Class) (y : List ℕ) (id : MemberId) → interface_token l k (of_class y id)
@@ -605,9 +605,9 @@ module _ (list : List ℕ) (p : Package) (sound : IsSound list p.files) (facts :
                 ap (λ (q : Class). slice_get (interface_methods w q) k) (sym h.class)
                 ∙ position_is (interface_methods w i) s k is in
                 let r = keep.methods y h.number h.entry entry_known entry_here k s there in
-                let j = position_or_len (λ (m : ExportMethod). Rattle.cjc_tokens.specs.ExportFile.Supers.is_virtual m
+                let j = position_or_len (λ (m : ExportMethod). Rattle.cjc_world.specs.ExportFile.Supers.is_virtual m
                 && (m.token == k)) h.entry.methods in
-                let found = sym (find_at (λ (m : ExportMethod). Rattle.cjc_tokens.specs.ExportFile.Supers.is_virtual m
+                let found = sym (find_at (λ (m : ExportMethod). Rattle.cjc_world.specs.ExportFile.Supers.is_virtual m
                 && (m.token == k)) h.entry.methods) ∙ r.1 in
                 let at = ap (λ (q : Class). slice_get q.methods j) h.class
                 ∙ Rattle.cjc_token_proof.proofs.WrittenCalls.Files.export_at h.entry.methods j r.0 found in

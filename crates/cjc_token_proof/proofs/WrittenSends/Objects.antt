@@ -16,7 +16,7 @@ use Rattle.cjc_components.specs.Package.{Package, world}
 use Rattle.cjc_token_proof.specs.ByToken.Classes.{memories}
 use Rattle.cjc_components.specs.Methods.{placed_methods}
 use Rattle.cjc_ncode.specs.Lowering.Agreement.{IsAmong, IsKnownCall, names}
-use Rattle.cjc_components.specs.Narrow.Rows.Package.{fault_name}
+use Rattle.cjc_components.specs.LowerNarrow.Rows.Package.{fault_name}
 use Rattle.cjc_script.specs.Sorts.{Shape}
 use Rattle.cjc_token_proof.specs.Tables.Known.{is_holder, is_own_exception, known_names, own_exceptions, same_members}
 use Rattle.cjc_token_proof.specs.Tables.Loading.{naming}

@@ -19,21 +19,21 @@ use Rattle.cjc_token_proof.proofs.ByToken.Members.{member_tells, member_same}
 use Rattle.cjc_token_proof.specs.ByToken.Cells.{fields, is_one_of, letter, letter_by, may_access, same_letter}
 use Rattle.cjc_token_proof.specs.ByToken.Supers.{HasShape, has_class}
 use Rattle.cjc_card_semantics.specs.Machine.ByToken.{letter_of}
-use Rattle.cjc_ncode.specs.Bytecode.declared.insn.JInsn.{JInsn}
-use Rattle.cjc_ncode.specs.Bytecode.declared.insn.JOp.{JOp}
-use Rattle.cjc_ncode.specs.Bytecode.declared.insn.JOp.TheVariants as jop
-use Rattle.cjc_ncode.specs.Bytecode.declared.method_code.MethodCode.{MethodCode}
+use Rattle.cjc_world_proof.specs.Bytecode.declared.insn.JInsn.{JInsn}
+use Rattle.cjc_world_proof.specs.Bytecode.declared.insn.JOp.{JOp}
+use Rattle.cjc_world_proof.specs.Bytecode.declared.insn.JOp.TheVariants as jop
+use Rattle.cjc_world_proof.specs.Bytecode.declared.method_code.MethodCode.{MethodCode}
 use Rattle.cjc_components.specs.Methods.{first_method, method_size, placed_at, placed_from, placed_methods}
 use Rattle.cjc_components.specs.Package.{LaidMethod, Package, pool, world}
 use Rattle.cjc_components.specs.Written.{IsPackage, code_by}
-use Rattle.cjc_components.specs.List.Listed.{ListTree}
+use Rattle.cjc_components.specs.LowerList.Listed.{ListTree}
 use Rattle.cjc_ncode.specs.Lowering.Agreement.{IsAmong, IsKnownCall}
 use Rattle.cjc_ncode.specs.Lowering.Placed.{Placed}
-use Rattle.cjc_components.specs.Narrow.Rows.Resolved.{by_owner, constant_named, field_found, method_found}
-use Rattle.cjc_components.specs.Narrow.Rows.Resolved.{resolution}
-use Rattle.cjc_components.specs.Narrow.Rows.Resolved.{resolved_field}
-use Rattle.cjc_components.specs.Narrow.Rows.Resolved.{special_by}
-use Rattle.cjc_components.specs.Narrow.Rows.Selected.{near_fields}
+use Rattle.cjc_components.specs.LowerNarrow.Rows.Resolved.{by_owner, constant_named, field_found, method_found}
+use Rattle.cjc_components.specs.LowerNarrow.Rows.Resolved.{resolution}
+use Rattle.cjc_components.specs.LowerNarrow.Rows.Resolved.{resolved_field}
+use Rattle.cjc_components.specs.LowerNarrow.Rows.Resolved.{special_by}
+use Rattle.cjc_components.specs.LowerNarrow.Rows.Selected.{near_fields}
 use Rattle.cjc_ncode.specs.ByLabel.{Callee, Fixed, OnInterface, OnObject, OnSuper, Resolved, jumping, making, operation}
 use Rattle.cjc_ncode.specs.ByLabel.{plain, switching, testing}
 use Rattle.cjc_ncode.specs.ByLabel as label
@@ -45,9 +45,9 @@ use Rattle.cjc_ncode.specs.Written.{written, written_as}
 use Rattle.cjc_ncode.specs.declared.narrow.PairRole.{PairRole}
 use Rattle.cjc_ncode.proofs.WrittenCases.{written_cases}
 use Rattle.cjc_components.proofs.NarrowRoles.{written_as_same}
-use Rattle.cjc_components.specs.Narrow.Pairs.Roles.{role_in, roles_of, with_pairs}
-use Rattle.cjc_components.specs.Narrow.Rows.Package.{flags_of, read_of}
-use Rattle.cjc_components.specs.Narrow.Written.Rows.{has_rows}
+use Rattle.cjc_components.specs.LowerNarrow.Pairs.Roles.{role_in, roles_of, with_pairs}
+use Rattle.cjc_components.specs.LowerNarrow.Rows.Package.{flags_of, read_of}
+use Rattle.cjc_components.specs.LowerNarrow.Written.Rows.{has_rows}
 use Rattle.cjc_ncode.specs.declared.narrow.NCase.{NCase}
 use Rattle.cjc_ncode.specs.declared.narrow.NInsn.{NInsn}
 use Rattle.cjc_ncode.specs.declared.narrow.NInsn.TheVariants.{Op, Push, Local, Inc, Words, Jump, Switch, Named}
@@ -56,7 +56,7 @@ use Rattle.cjc_ncode.specs.declared.narrow.PoolKey.TheVariants as keys
 use Rattle.cjc_script.specs.Sorts.{Element, Sort, Boolean, Byte, Short, Int, Reference, NoValue, Shape, OfClass}
 use Rattle.cjc_script.specs.Sorts.{OfNumbers, OfReferences, Booleans, Bytes, Shorts, Ints, field_sort, shape_named}
 use Rattle.cjc_token_proof.specs.Tables.Known.{may_name, order_of}
-use Rattle.cjc_vtable.specs.Range.Words.{low_word}
+use Rattle.cjc_card_semantics.specs.Range.Words.{low_word}
 use Rattle.cjc_world.specs.Classes.{Class}
 use Rattle.cjc_token_proof.specs.WrittenCalls.Calls.{IsNamed, TakesWords}
 use Rattle.cjc_token_proof.specs.WrittenSends.Named.{CallsAreNamed, IsTypeThere, NamesWhatIsThere}

@@ -15,11 +15,11 @@ use Rattle.cjc_token_proof.specs.Calls.Selecting.{signature}
 use Rattle.cjc_card_semantics.specs.Machine.Calls.{listed_token, token_in_files}
 use Rattle.cjc_card_semantics.specs.Machine.Classes.{or_else}
 use Rattle.cjc_components.specs.Package.{Package, world}
-use Rattle.cjc_tokens.specs.ExportFile.declared.tree.ExportClass.{ExportClass}
-use Rattle.cjc_tokens.specs.ExportFile.declared.tree.ExportMethod.{ExportMethod}
-use Rattle.cjc_tokens.specs.ExportFile.Supers.{is_one_of, super_count, upwards_from, with_class}
+use Rattle.cjc_world.specs.ExportFile.declared.tree.ExportClass.{ExportClass}
+use Rattle.cjc_world.specs.ExportFile.declared.tree.ExportMethod.{ExportMethod}
+use Rattle.cjc_world.specs.ExportFile.Supers.{is_one_of, super_count, upwards_from, with_class}
 use Rattle.cjc_world.proofs.ExportFileUpwards.{one_cases, one_here}
-use Rattle.cjc_tokens.specs.ExportFile.Supers as exports
+use Rattle.cjc_world.specs.ExportFile.Supers as exports
 use Rattle.cjc_tokens.specs.Members.{chosen, is_initialiser, is_virtual}
 use Rattle.cjc_vtable.specs.Calls.{any_method}
 use Rattle.cjc_world.specs.Classes.{Class, Member, class_named, imported, method_of_export}

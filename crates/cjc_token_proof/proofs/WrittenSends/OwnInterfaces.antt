@@ -6,10 +6,10 @@ use Rattle.std.proofs.lemmas.Bool.{or_parts}
 use Rattle.cjc_bytes.specs.AccessFlags.{acc_native, acc_strict, acc_synchronized, has, is_abstract, is_interface}
 use Rattle.cjc_bytes.specs.AccessFlags.{is_private, is_static}
 use Rattle.cjc_bytes.specs.declared.settings.Settings.{Settings}
-use Rattle.cjc_tokens.specs.ClassFile.declared.tree.ClassTree.{ClassTree}
-use Rattle.cjc_tokens.specs.ClassFile.declared.tree.MethodTree.{MethodTree}
-use Rattle.cjc_ncode.specs.Bytecode.declared.method_code.MethodCode.{MethodCode}
-use Rattle.cjc_vtable.specs.Subset.Flags.{has_two_accesses, is_unfit_method}
+use Rattle.cjc_world.specs.ClassFile.declared.tree.ClassTree.{ClassTree}
+use Rattle.cjc_world.specs.ClassFile.declared.tree.MethodTree.{MethodTree}
+use Rattle.cjc_world_proof.specs.Bytecode.declared.method_code.MethodCode.{MethodCode}
+use Rattle.cjc_world_proof.specs.Subset.Flags.{has_two_accesses, is_unfit_method}
 use Rattle.cjc_tokens.specs.Members.{is_constructor, is_initialiser}
 use Rattle.cjc_vtable.proofs.Clean.{fit-method}
 use Rattle.cjc_vtable.proofs.Filed.{IsFiled, filed, get-has, in_class_file, in_export_file}

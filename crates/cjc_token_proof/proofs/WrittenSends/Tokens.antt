@@ -9,7 +9,7 @@ use Rattle.cjc_bytes.specs.AccessFlags.{is_interface, is_private, is_static}
 use Rattle.cjc_bytes.proofs.Gets.{in_front, get_behind}
 use Rattle.cjc_card_semantics.specs.Machine.Calls.{Described, described_token}
 use Rattle.cjc_card_semantics.specs.Machine.Dispatch.{Hidden, Open, Token}
-use Rattle.cjc_tokens.specs.ClassFile.declared.tree.FieldTree.{FieldTree}
+use Rattle.cjc_world.specs.ClassFile.declared.tree.FieldTree.{FieldTree}
 use Rattle.cjc_components.specs.Descriptor.{method_descriptor}
 use Rattle.cjc_components.specs.Package.{Package, has_applets, tokens, world}
 use Rattle.cjc_token_proof.specs.Tables.Sound.{IsSound}

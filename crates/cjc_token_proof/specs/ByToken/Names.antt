@@ -1,7 +1,7 @@
 -- The names of classes in the class files and export files, and what they name on the card.
 use Rattle.std.specs.Prelude.{◌≡◌, ℕ, List, [], ◌∷◌, Some, None, true, false, codes}
 use Rattle.cjc_bytes.specs.AccessFlags.{is_interface}
-use Rattle.cjc_tokens.specs.ExportFile.declared.tree.ExportClass.{ExportClass}
+use Rattle.cjc_world.specs.ExportFile.declared.tree.ExportClass.{ExportClass}
 use Rattle.cjc_card_semantics.specs.Bytecode.Calculations.{Fault}
 use Rattle.cjc_card_semantics.specs.Bytecode.Renaming.{option_as}
 use Rattle.cjc_card_semantics.specs.Machine.Calls.{imported, throwable}
@@ -10,8 +10,8 @@ use Rattle.cjc_card_semantics.specs.Machine.Classes.{fault_name, external, exter
 use Rattle.cjc_card_semantics.specs.Machine.Classes.{offset_of}
 use Rattle.cjc_card_semantics.specs.Machine.Loaded.{Part}
 use Rattle.cjc_world.specs.Classes.{Class, class_named}
-use Rattle.cjc_components.specs.Narrow.Rows.Package.{name_there, plain_import, throwable_import}
-use Rattle.cjc_components.specs.Narrow.Rows.Package
+use Rattle.cjc_components.specs.LowerNarrow.Rows.Package.{name_there, plain_import, throwable_import}
+use Rattle.cjc_components.specs.LowerNarrow.Rows.Package
 use Rattle.cjc_ncode.specs.Lowering.Naming.{Naming}
 use Rattle.cjc_token_proof.specs.ByToken.Supers.{has_class}
 

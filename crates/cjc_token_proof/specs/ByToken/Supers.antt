@@ -1,7 +1,7 @@
 -- What stands above a class by the class files and export files, and by class infos and export trees.
 use Rattle.std.specs.Prelude.{◌≡◌, ℕ, List, ◌++◌, map, Some, None, Bool, true, false, is_some, option_to_list}
 use Rattle.std.specs.Prelude.{if◌then◌else◌}
-use Rattle.cjc_tokens.specs.ExportFile.declared.tree.ExportClass.{ExportClass}
+use Rattle.cjc_world.specs.ExportFile.declared.tree.ExportClass.{ExportClass}
 use Rattle.cjc_script.specs.Sorts.{Shape, OfClass, OfNumbers, OfReferences, shape_name}
 use Rattle.cjc_card_semantics.specs.Bytecode.Renaming.{shape_as}
 use Rattle.cjc_card_semantics.specs.Machine.Classes.{Own, External, Info, is_of, info_of, info_supers, external}

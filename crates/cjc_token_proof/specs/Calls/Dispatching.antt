@@ -3,8 +3,8 @@
 use Rattle.std.specs.Prelude.{◌≡◌, ℕ, suc, List, [], ◌∷◌, map, Option, Some, None, true, false, if◌then◌else◌}
 use Rattle.std.specs.Prelude.{slice_get}
 use Rattle.cjc_bytes.specs.declared.fault.MemberId.{MemberId}
-use Rattle.cjc_ncode.specs.CapRead.declared.tree.ClassEntry.{ClassEntry}
-use Rattle.cjc_tokens.specs.ExportFile.declared.tree.ExportClass.{ExportClass}
+use Rattle.cjc_card_semantics.specs.CapRead.declared.tree.ClassEntry.{ClassEntry}
+use Rattle.cjc_world.specs.ExportFile.declared.tree.ExportClass.{ExportClass}
 use Rattle.cjc_card_semantics.specs.Machine.Classes.{Own, External, IsClass, info_of, class_of, external}
 use Rattle.cjc_card_semantics.specs.Machine.Dispatch.{Selection, At, Outward, exported_line, in_files, tower}
 use Rattle.cjc_card_semantics.specs.Machine.Dispatch.{dispatched_open, dispatched_hidden, dispatched_interface}

@@ -25,7 +25,7 @@ use Rattle.cjc_jvm_semantics.specs.Linked
 use Rattle.cjc_jvm_semantics.specs.OnePackage.{entry_named, first_imported, first_super, is_initialiser, method_at}
 use Rattle.cjc_jvm_semantics.specs.OnePackage.{of_class, sent_named}
 use Rattle.cjc_ncode.specs.ByLabel.{Callee, Fixed, OnObject, OnSuper, OnInterface}
-use Rattle.cjc_components.specs.Narrow.Rows.Package.{class_of_callee, on_class, selected_on}
+use Rattle.cjc_components.specs.LowerNarrow.Rows.Package.{class_of_callee, on_class, selected_on}
 use Rattle.cjc_vtable.specs.Laws.{Under, selection}
 use Rattle.cjc_vtable.specs.Naming.{named}
 use Rattle.cjc_ncode.specs.Lowering.ByPlace.{Methods}

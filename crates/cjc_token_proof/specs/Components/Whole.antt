@@ -1,7 +1,7 @@
 -- The components of a package, of which only Applet and Export may be absent, as sentences on components have them.
 use Rattle.std.specs.Prelude.{List}
-use Rattle.cjc_tokens.specs.ExportFile.declared.tree.ExportTree.{ExportTree}
-use Rattle.cjc_components.specs.CheckRules.Complete.{Complete}
+use Rattle.cjc_world.specs.ExportFile.declared.tree.ExportTree.{ExportTree}
+use Rattle.cjc_components.specs.LowerCheckRules.Complete.{Complete}
 use Rattle.cjc_components.specs.Package.{Package}
 use Rattle.cjc_components.specs.Class.{class_info}
 use Rattle.cjc_components.specs.Statics.{static_field}

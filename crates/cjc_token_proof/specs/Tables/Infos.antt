@@ -1,10 +1,10 @@
 -- Where the class of a name is on the card: an info of the package, or a class of an export file.
 use Rattle.std.specs.Prelude.{◌≡◌, ℕ, List, Some, None, slice_get}
-use Rattle.cjc_tokens.specs.ExportFile.declared.tree.ExportClass.{ExportClass}
-use Rattle.cjc_tokens.specs.ExportFile.declared.tree.ExportTree.{ExportTree}
+use Rattle.cjc_world.specs.ExportFile.declared.tree.ExportClass.{ExportClass}
+use Rattle.cjc_world.specs.ExportFile.declared.tree.ExportTree.{ExportTree}
 use Rattle.cjc_card_semantics.specs.Machine.Classes.{Own, External, external, external_named, info_of, names_of}
 use Rattle.cjc_card_semantics.specs.Machine.Classes.{number_named, number_of, offset_of}
-use Rattle.cjc_ncode.specs.CapRead.declared.tree.ClassRef.TheVariants.{Inside, Outside}
+use Rattle.cjc_card_semantics.specs.CapRead.declared.tree.ClassRef.TheVariants.{Inside, Outside}
 use Rattle.cjc_world.specs.Classes.{Class, imported}
 use Rattle.cjc_world.specs.Order.{class_order}
 use Rattle.cjc_components.specs.Package.{Package, tokens, world}

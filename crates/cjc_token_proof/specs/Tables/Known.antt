@@ -7,13 +7,13 @@ use Rattle.cjc_card_semantics.specs.Bytecode.Calculations.{Arithmetic, NullPoint
 use Rattle.cjc_card_semantics.specs.Bytecode.Calculations.{ClassCast, ArrayStore}
 use Rattle.cjc_bytes.specs.AccessFlags.{is_abstract, is_interface}
 use Rattle.cjc_bytes.specs.declared.fault.MemberId.{MemberId}
-use Rattle.cjc_tokens.specs.ClassFile.declared.tree.ClassTree.{ClassTree}
+use Rattle.cjc_world.specs.ClassFile.declared.tree.ClassTree.{ClassTree}
 use Rattle.cjc_world.specs.declared.image.StaticImage.{StaticImage}
 use Rattle.cjc_world.specs.Classes.{Class, class_named}
 use Rattle.cjc_jvm_semantics.specs.OnePackage.{declared_fields, object_fields}
-use Rattle.cjc_world_proof.specs.Clinit.Fields.{is_cell}
-use Rattle.cjc_world_proof.specs.Clinit.Image.{field_id}
-use Rattle.cjc_components.specs.Narrow.Rows.Package.{fault_name}
+use Rattle.cjc_world_proof.specs.LowerClinit.Fields.{is_cell}
+use Rattle.cjc_world_proof.specs.LowerClinit.Image.{field_id}
+use Rattle.cjc_components.specs.LowerNarrow.Rows.Package.{fault_name}
 use Rattle.cjc_ncode.specs.ByLabel.{Callee}
 use Rattle.cjc_ncode.specs.PoolOrder.{same_member}
 use Rattle.cjc_token_proof.specs.ByToken.Cells.{Order, is_one_of}

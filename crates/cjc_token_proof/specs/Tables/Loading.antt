@@ -4,7 +4,7 @@ use Rattle.std.specs.Prelude.{if◌then◌else◌}
 use Rattle.cjc_bytes.specs.AccessFlags.{is_interface}
 use Rattle.cjc_card_semantics.specs.Machine.Classes.{Info, IsInterface, IsClass}
 use Rattle.cjc_card_semantics.specs.Machine.Loaded.{Loaded, Part}
-use Rattle.cjc_components.specs.CheckRules.Complete.{Complete}
+use Rattle.cjc_components.specs.LowerCheckRules.Complete.{Complete}
 use Rattle.cjc_world.specs.Classes.{Class}
 use Rattle.cjc_ncode.specs.Lowering.Naming.{Naming}
 use Rattle.cjc_components.specs.Package.{Package, has_applets, world}

@@ -4,19 +4,19 @@ use Rattle.std.specs.Prelude.{is_some}
 use Rattle.cjc_bytes.specs.Descriptor.{Parts}
 use Rattle.cjc_bytes.specs.Spots.{desc_of}
 use Rattle.cjc_bytes.specs.declared.settings.FileLine.{FileLine}
-use Rattle.cjc_tokens.specs.ExportFile.declared.tree.ExportClass.{ExportClass}
+use Rattle.cjc_world.specs.ExportFile.declared.tree.ExportClass.{ExportClass}
 use Rattle.cjc_card_semantics.specs.Machine.ByToken.{letter_of}
-use Rattle.cjc_tokens.specs.ClassFile.declared.tree.ClassTree.{ClassTree}
-use Rattle.cjc_tokens.specs.ClassFile.declared.tree.FieldTree.{FieldTree}
+use Rattle.cjc_world.specs.ClassFile.declared.tree.ClassTree.{ClassTree}
+use Rattle.cjc_world.specs.ClassFile.declared.tree.FieldTree.{FieldTree}
 use Rattle.cjc_script.specs.Sorts.{field_sort}
 use Rattle.cjc_tokens.specs.Fields.{is_reference}
 use Rattle.cjc_token_proof.specs.ByToken.Objects.{is_reference as is_reference_sort}
-use Rattle.cjc_vtable.specs.Subset.Members.{imports}
+use Rattle.cjc_world_proof.specs.Subset.Members.{imports}
 use Rattle.cjc_world.specs.Subtype.{starts}
 use Rattle.cjc_world.specs.Files.{Files}
 use Rattle.cjc_world.specs.Rules.{breaks}
 use Rattle.cjc_vtable.specs.Kept.{AreRead}
-use Rattle.cjc_vtable.specs.ClassOrder.Classes.Numbers.{class_count}
+use Rattle.cjc_world_proof.specs.ClassOrder.Classes.Numbers.{class_count}
 
 -- how many lines name export files
 abbrev pub export_count : List FileLine → ℕ

@@ -7,13 +7,13 @@ use Rattle.cjc_bytes.specs.declared.fault.MemberId.{MemberId}
 use Rattle.cjc_jvm_semantics.specs.OnePackage.{is_initialiser, of_class}
 use Rattle.cjc_token_proof.specs.Calls.Selecting.{signature}
 use Rattle.cjc_components.specs.Package.{Package, world}
-use Rattle.cjc_tokens.specs.ExportFile.declared.tree.ExportClass.{ExportClass}
-use Rattle.cjc_tokens.specs.ExportFile.declared.tree.ExportMethod.{ExportMethod}
-use Rattle.cjc_tokens.specs.ExportFile.Supers.{classes_of, virtual_method}
-use Rattle.cjc_tokens.specs.ExportFile.Supers as exports
+use Rattle.cjc_world.specs.ExportFile.declared.tree.ExportClass.{ExportClass}
+use Rattle.cjc_world.specs.ExportFile.declared.tree.ExportMethod.{ExportMethod}
+use Rattle.cjc_world.specs.ExportFile.Supers.{classes_of, virtual_method}
+use Rattle.cjc_world.specs.ExportFile.Supers as exports
 use Rattle.cjc_ncode.specs.ByLabel.{Callee, Fixed, OnObject, OnSuper, OnInterface}
-use Rattle.cjc_components.specs.Narrow.Rows.Package.{flags_of}
-use Rattle.cjc_components.specs.Narrow.Rows.Resolved.{method_found}
+use Rattle.cjc_components.specs.LowerNarrow.Rows.Package.{flags_of}
+use Rattle.cjc_components.specs.LowerNarrow.Rows.Resolved.{method_found}
 use Rattle.cjc_script.specs.Sorts as sorts
 use Rattle.cjc_script.specs.Sorts.{Element, Shape, OfClass, OfNumbers, OfReferences}
 use Rattle.cjc_tokens.specs.Lines.{line_of}

@@ -10,12 +10,12 @@ use Rattle.cjc_components.specs.Methods.{first_method, method_offset, method_siz
 use Rattle.cjc_components.specs.Names.{class_ref}
 use Rattle.cjc_components.specs.Package.{LaidMethod, Package, pool, world}
 use Rattle.cjc_components.specs.Written.{is_abstract_at}
-use Rattle.cjc_components.specs.Layout.Handlers.{table_order}
+use Rattle.cjc_components.specs.LowerLayout.Handlers.{table_order}
 use Rattle.cjc_ncode.specs.Lowering.Handlers.{AllLie}
 use Rattle.cjc_ncode.specs.Lowering.Naming.{Naming}
 use Rattle.cjc_ncode.specs.Lowering.Placed.{IsLaidOut, Placed}
-use Rattle.cjc_components.specs.Narrow.Rows.Package.{code_of}
-use Rattle.cjc_components.specs.Narrow.Rows.Selected.{near_fields}
+use Rattle.cjc_components.specs.LowerNarrow.Rows.Package.{code_of}
+use Rattle.cjc_components.specs.LowerNarrow.Rows.Selected.{near_fields}
 use Rattle.cjc_ncode.specs.PoolOrder.{same_member}
 use Rattle.cjc_ncode.specs.declared.narrow.NMethod.{NMethod}
 use Rattle.cjc_world.specs.declared.found.Found.{Found}

@@ -14,13 +14,13 @@ use Rattle.cjc_token_proof.specs.ByToken.Cells.{Order, fields, is_one_of, letter
 use Rattle.cjc_token_proof.specs.ByToken.Classes.{tests}
 use Rattle.cjc_token_proof.specs.ByToken.Supers.{HasShape, has_class}
 use Rattle.cjc_card_semantics.specs.Machine.ByToken.{letter_of}
-use Rattle.cjc_ncode.specs.Bytecode.declared.insn.JInsn.{JInsn}
-use Rattle.cjc_ncode.specs.Bytecode.declared.insn.JOp.{JOp}
-use Rattle.cjc_ncode.specs.Bytecode.declared.insn.JOp.TheVariants as jop
+use Rattle.cjc_world_proof.specs.Bytecode.declared.insn.JInsn.{JInsn}
+use Rattle.cjc_world_proof.specs.Bytecode.declared.insn.JOp.{JOp}
+use Rattle.cjc_world_proof.specs.Bytecode.declared.insn.JOp.TheVariants as jop
 use Rattle.cjc_components.specs.Package.{LaidMethod, Package, world}
 use Rattle.cjc_ncode.specs.Lowering.Agreement.{Cells, KnownNames, known_by}
-use Rattle.cjc_components.specs.Narrow.Rows.Package.{fault_name}
-use Rattle.cjc_components.specs.Narrow.Rows.Resolved.{constant_named, resolved_field}
+use Rattle.cjc_components.specs.LowerNarrow.Rows.Package.{fault_name}
+use Rattle.cjc_components.specs.LowerNarrow.Rows.Resolved.{constant_named, resolved_field}
 use Rattle.cjc_ncode.specs.ByLabel.{Callee, Fixed, OnInterface, OnObject, OnSuper, Resolved, operation}
 use Rattle.cjc_ncode.specs.PoolOrder.{same_member}
 use Rattle.cjc_ncode.specs.declared.narrow.NInsn.{NInsn}

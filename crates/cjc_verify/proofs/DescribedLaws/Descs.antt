@@ -4,8 +4,8 @@ use Rattle.std.specs.Prelude.{◌&&◌, if◌then◌else◌, option_and_then}
 use Rattle.std.specs.List.{list_all}
 use Rattle.cjc_bytes.specs.Descriptor.{Part, Parts}
 use Rattle.cjc_bytes.specs.Spots.{desc_of}
-use Rattle.cjc_card_calls.specs.Script.Sorts.{Signature, Sort, field_sort, result_by, signature_by, signature_of}
-use Rattle.cjc_card_calls.specs.Script.Sorts.{sort_of, sort_or_none}
+use Rattle.cjc_card_acts.specs.Script.Sorts.{Signature, Sort, field_sort, result_by, signature_by, signature_of}
+use Rattle.cjc_card_acts.specs.Script.Sorts.{sort_of, sort_or_none}
 use Rattle.cjc_verify.specs.CardTypes.{is_card_parts}
 use Rattle.cjc_verify.specs.Pairs.{is_card_result, is_card_sort, is_card_type}
 

@@ -11,24 +11,24 @@ use Rattle.cjc_capread.specs.declared.tree.ClassRef.{ClassRef}
 use Rattle.cjc_capread.specs.declared.tree.PoolEntry.{PoolEntry}
 use Rattle.cjc_capread.specs.declared.tree.PoolEntry.TheVariants.{Classref, InstanceFieldref, StaticFieldref}
 use Rattle.cjc_capread.specs.declared.tree.PoolEntry.TheVariants.{StaticMethodref, SuperMethodref, VirtualMethodref}
-use Rattle.cjc_card_calls.specs.CardSemantics.Machine.Classes.{external, with_token}
-use Rattle.cjc_card_calls.specs.CardSemantics.Machine.Dispatch.{exported_line}
-use Rattle.cjc_card_calls.specs.CardSemantics.Machine.Loaded.{Loaded}
+use Rattle.cjc_card_acts.specs.CardSemantics.Machine.Classes.{external, with_token}
+use Rattle.cjc_card_acts.specs.CardSemantics.Machine.Dispatch.{exported_line}
+use Rattle.cjc_card_acts.specs.CardSemantics.Machine.Loaded.{Loaded}
 use Rattle.cjc_check_rules.specs.Classes.{imported as imported_class}
 use Rattle.cjc_classes.specs.Descriptor.Keys.{key_cell}
 use Rattle.cjc_classes.proofs.TokensFacts.{position-cons}
 use Rattle.cjc_classes.proofs.VTableNumbers.{at-kind, at-tree}
-use Rattle.cjc_classes.specs.Components.Descriptor.{as_added, method_in, no_member}
-use Rattle.cjc_pairing.specs.NCode.declared.narrow.PoolKey.{PoolKey}
-use Rattle.cjc_pairing.specs.NCode.declared.narrow.PoolKey.TheVariants.{StaticField}
-use Rattle.cjc_classes.specs.Components.Statics.{cell_offset, cell_order}
-use Rattle.cjc_card_calls.specs.ExportFile.Supers.{classes_of, upwards}
-use Rattle.cjc_card_calls.specs.ExportFile.declared.tree.ExportClass.{ExportClass}
-use Rattle.cjc_card_calls.specs.ExportFile.declared.tree.ExportTree.{ExportTree}
-use Rattle.cjc_pairing.specs.ClassOrder.Classes.Numbers.{declared_at}
+use Rattle.cjc_classes.specs.LowerComponents.Descriptor.{as_added, method_in, no_member}
+use Rattle.cjc_classes.specs.NCode.declared.narrow.PoolKey.{PoolKey}
+use Rattle.cjc_classes.specs.NCode.declared.narrow.PoolKey.TheVariants.{StaticField}
+use Rattle.cjc_classes.specs.LowerComponents.Statics.{cell_offset, cell_order}
+use Rattle.cjc_world.specs.ExportFile.Supers.{classes_of, upwards}
+use Rattle.cjc_world.specs.ExportFile.declared.tree.ExportClass.{ExportClass}
+use Rattle.cjc_world.specs.ExportFile.declared.tree.ExportTree.{ExportTree}
+use Rattle.cjc_classes.specs.ClassOrder.Classes.Numbers.{declared_at}
 use Rattle.cjc_world.specs.Added.{added, added_at}
-use Rattle.cjc_card_calls.specs.ClassFile.declared.tree.ClassTree.{ClassTree}
-use Rattle.cjc_card_calls.specs.ClassFile.declared.tree.FieldTree.{FieldTree}
+use Rattle.cjc_world.specs.ClassFile.declared.tree.ClassTree.{ClassTree}
+use Rattle.cjc_world.specs.ClassFile.declared.tree.FieldTree.{FieldTree}
 use Rattle.cjc_world.specs.Classes.{Class, Member, all_classes, declared, field_of_class, field_of_export}
 use Rattle.cjc_world.specs.Classes.{imported, method_of_export}
 use Rattle.cjc_world.specs.Classes as world_of

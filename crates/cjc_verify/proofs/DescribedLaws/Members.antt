@@ -13,18 +13,19 @@ use Rattle.cjc_classes.proofs.TypeInfo.Order.{added_is, along_order}
 use Rattle.cjc_classes.specs.Descriptor.Working.Described.{number_in}
 use Rattle.cjc_capread.specs.declared.tree.ClassRef.{ClassRef}
 use Rattle.cjc_capread.specs.declared.tree.FieldPlace.TheVariants as places
-use Rattle.cjc_classes.specs.LowerClinit.Image.{field_id}
-use Rattle.cjc_classes.specs.Components.Class.{fields_in}
-use Rattle.cjc_classes.specs.Components.Descriptor.{as_added, field_flags, method_flags, method_in, methods_with_added}
-use Rattle.cjc_classes.specs.Components.Descriptor.{no_member}
-use Rattle.cjc_card_calls.specs.Script.Sorts.{Sort, Boolean, Byte, Short, Int, Reference, NoValue, field_sort}
-use Rattle.cjc_classes.specs.Components.Statics.{cell_offset}
-use Rattle.cjc_pairing.specs.ClassOrder.Classes.Numbers.{declared_at}
-use Rattle.cjc_classes.specs.Tokens.Fields.{is_constant}
-use Rattle.cjc_classes.specs.Tokens.Tokens.{Assigned}
-use Rattle.cjc_card_calls.specs.ClassFile.declared.tree.ClassTree.{ClassTree}
-use Rattle.cjc_card_calls.specs.ClassFile.declared.tree.FieldTree.{FieldTree}
-use Rattle.cjc_card_calls.specs.ClassFile.declared.tree.MethodTree.{MethodTree}
+use Rattle.cjc_classes.specs.Clinit.Image.{field_id}
+use Rattle.cjc_classes.specs.LowerComponents.Class.{fields_in}
+use Rattle.cjc_classes.specs.LowerComponents.Descriptor.{as_added, field_flags, method_flags, method_in}
+use Rattle.cjc_classes.specs.LowerComponents.Descriptor.{methods_with_added}
+use Rattle.cjc_classes.specs.LowerComponents.Descriptor.{no_member}
+use Rattle.cjc_card_acts.specs.Script.Sorts.{Sort, Boolean, Byte, Short, Int, Reference, NoValue, field_sort}
+use Rattle.cjc_classes.specs.LowerComponents.Statics.{cell_offset}
+use Rattle.cjc_classes.specs.ClassOrder.Classes.Numbers.{declared_at}
+use Rattle.cjc_methods.specs.Tokens.Fields.{is_constant}
+use Rattle.cjc_methods.specs.Tokens.Tokens.{Assigned}
+use Rattle.cjc_world.specs.ClassFile.declared.tree.ClassTree.{ClassTree}
+use Rattle.cjc_world.specs.ClassFile.declared.tree.FieldTree.{FieldTree}
+use Rattle.cjc_world.specs.ClassFile.declared.tree.MethodTree.{MethodTree}
 use Rattle.cjc_world.specs.Files.{Files}
 use Rattle.cjc_world.specs.Classes.{Member, declared, field_of_class, method_of_class}
 use Rattle.cjc_world.specs.Added.{added, named_by}

@@ -2,7 +2,7 @@
 use Rattle.std.proofs.Common.{◌≡◌, List, [], ◌++◌, map, sym, ap, ◌∙◌, append_assoc}
 use Rattle.cjc_bytes.specs.declared.fault.MemberId.{MemberId}
 use Rattle.cjc_bytes.proofs.Lists.{map_append, map_map}
-use Rattle.cjc_classes.specs.Components.Statics.{cell_order}
+use Rattle.cjc_classes.specs.LowerComponents.Statics.{cell_order}
 use Rattle.cjc_world.specs.declared.image.ArrayCell.{ArrayCell}
 use Rattle.cjc_world.specs.declared.image.StaticImage.{StaticImage}
 use Rattle.cjc_world.specs.declared.image.ValueCell.{ValueCell}

@@ -13,15 +13,15 @@ use Rattle.cjc_capread.specs.declared.tree.FieldType.TheVariants as types
 use Rattle.cjc_capread.specs.declared.tree.PoolEntry.{PoolEntry}
 use Rattle.cjc_capread.specs.declared.tree.PoolEntry.TheVariants.{Classref, InstanceFieldref, StaticFieldref}
 use Rattle.cjc_capread.specs.declared.tree.PoolEntry.TheVariants.{StaticMethodref, SuperMethodref, VirtualMethodref}
-use Rattle.cjc_card_calls.specs.Script.Sorts.{Sort, Boolean, Byte, Short, Int, Reference, NoValue, field_sort}
+use Rattle.cjc_card_acts.specs.Script.Sorts.{Sort, Boolean, Byte, Short, Int, Reference, NoValue, field_sort}
 use Rattle.cjc_check_rules.specs.declared.spot.ComponentPlace.{ComponentPlace}
 use Rattle.cjc_check_rules.specs.ClassRefs.{fields_begin, pool_count_at}
 use Rattle.cjc_check_rules.specs.Complete.{array_size, described_size}
 use Rattle.cjc_check_rules.specs.Described.{methods_begin}
 use Rattle.cjc_check_rules.specs.Spots.{beside, in_info, unless}
-use Rattle.cjc_classes.specs.Components.Descriptor.{class_flags, field_flags}
-use Rattle.cjc_classes.specs.Components.Statics.{cell_order}
-use Rattle.cjc_card_calls.specs.ClassFile.declared.tree.FieldTree.{FieldTree}
+use Rattle.cjc_classes.specs.LowerComponents.Descriptor.{class_flags, field_flags}
+use Rattle.cjc_classes.specs.LowerComponents.Statics.{cell_order}
+use Rattle.cjc_world.specs.ClassFile.declared.tree.FieldTree.{FieldTree}
 use Rattle.cjc_world.specs.Classes.{Class}
 use Rattle.cjc_world.specs.Lookup.{member_at}
 use Rattle.cjc_world.specs.Order.{class_order, methods_of_class}

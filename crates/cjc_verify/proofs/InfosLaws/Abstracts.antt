@@ -6,9 +6,9 @@ use Rattle.std.specs.Prelude.{Option, Some, None, option_map, option_to_list, sl
 use Rattle.std.specs.List.{flat_map, list_any, range_with_len}
 use Rattle.std.proofs.lemmas.List.Concat.{flat_map-cons}
 use Rattle.cjc_bytes.proofs.Quantified.{any_both}
-use Rattle.cjc_card_calls.specs.CardSemantics.Machine.Dispatch.{Hidden, Open, Token}
-use Rattle.cjc_pairing.specs.ClassOrder.Classes.Numbers.{declared_at}
-use Rattle.cjc_card_calls.specs.ClassFile.declared.tree.ClassTree.{ClassTree}
+use Rattle.cjc_card_acts.specs.CardSemantics.Machine.Dispatch.{Hidden, Open, Token}
+use Rattle.cjc_classes.specs.ClassOrder.Classes.Numbers.{declared_at}
+use Rattle.cjc_world.specs.ClassFile.declared.tree.ClassTree.{ClassTree}
 use Rattle.cjc_world.specs.Files.{Files}
 use Rattle.cjc_world.specs.Classes.{Class, declared}
 use Rattle.cjc_verify.specs.Abstracts.{any_between, is_abstract_token, unmade_at}

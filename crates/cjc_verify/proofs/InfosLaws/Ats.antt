@@ -9,12 +9,12 @@ use Rattle.cjc_bytes.proofs.Gets.{drop_next, drop_past, one_taken, take_past}
 use Rattle.cjc_capread.specs.declared.tree.ClassDescriptor.{ClassDescriptor}
 use Rattle.cjc_capread.specs.declared.tree.ClassRef.{ClassRef}
 use Rattle.cjc_capread.specs.declared.tree.MethodDescriptor.{MethodDescriptor}
-use Rattle.cjc_card_calls.specs.ClassFile.declared.tree.ClassTree.{ClassTree}
+use Rattle.cjc_world.specs.ClassFile.declared.tree.ClassTree.{ClassTree}
 use Rattle.cjc_world.specs.declared.found.Found.{Found}
 use Rattle.cjc_world.specs.Files.{Files}
 use Rattle.cjc_world.specs.Classes.{Class, all_classes, declared}
 use Rattle.cjc_world.specs.Order.{class_order, methods_of_class}
-use Rattle.cjc_pairing.specs.ClassOrder.Classes.Numbers.{declared_at}
+use Rattle.cjc_classes.specs.ClassOrder.Classes.Numbers.{declared_at}
 use Rattle.cjc_verify.specs.Offsets.{ats_among, ats_at, ats_by, ats_in, ats_where, offset_among}
 use Rattle.cjc_verify.specs.Pairs.{Described, Pair, described, described_among, described_in, method_offset, same_found}
 use Rattle.cjc_verify.specs.Pairs.{world}

@@ -8,16 +8,16 @@ use Rattle.std.specs.Str.{bytes_eq}
 use Rattle.cjc_bytes.proofs.Gets.{drop_next, drop_past}
 use Rattle.cjc_capread.specs.declared.tree.ClassRef.{ClassRef}
 use Rattle.cjc_capread.specs.declared.tree.ClassRef.TheVariants.{Inside}
-use Rattle.cjc_card_calls.specs.CardSemantics.Machine.Classes.{Class as CardClass, External, Own, external_from}
-use Rattle.cjc_card_calls.specs.CardSemantics.Machine.Classes.{or_else}
+use Rattle.cjc_card_acts.specs.CardSemantics.Machine.Classes.{Class as CardClass, External, Own, external_from}
+use Rattle.cjc_card_acts.specs.CardSemantics.Machine.Classes.{or_else}
 use Rattle.cjc_classes.proofs.ClassInfo.Noting.{else_inside, else_none}
 use Rattle.cjc_classes.specs.declared.class_info.refs.ClassRefs.{ClassRefs}
 use Rattle.cjc_classes.specs.ClassInfo.Infos.{is_named, number_named}
 use Rattle.cjc_classes.specs.ClassInfo.Refs.{ref_in, ref_of}
-use Rattle.cjc_classes.specs.Components.Names.{ref_to}
+use Rattle.cjc_classes.specs.LowerComponents.Names.{ref_to}
 use Rattle.cjc_classes.proofs.TokensFacts.{position-cons}
-use Rattle.cjc_pairing.specs.ClassOrder.Classes.Numbers.{declared_at}
-use Rattle.cjc_card_calls.specs.ClassFile.declared.tree.ClassTree.{ClassTree}
+use Rattle.cjc_classes.specs.ClassOrder.Classes.Numbers.{declared_at}
+use Rattle.cjc_world.specs.ClassFile.declared.tree.ClassTree.{ClassTree}
 use Rattle.cjc_world.specs.Files.{Files}
 use Rattle.cjc_world.specs.Classes.{Class, all_classes}
 use Rattle.cjc_world.specs.Order.{class_order}

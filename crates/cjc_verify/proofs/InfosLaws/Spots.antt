@@ -9,17 +9,17 @@ use Rattle.cjc_capread.specs.declared.tree.ClassInfo.{ClassInfo}
 use Rattle.cjc_capread.specs.declared.tree.ImplementedInterface.{ImplementedInterface}
 use Rattle.cjc_capread.specs.declared.tree.InterfaceEntry.{InterfaceEntry}
 use Rattle.cjc_capread.specs.ClassRefs.{same_class}
-use Rattle.cjc_card_calls.specs.CardSemantics.Machine.Classes.{Info, IsClass, IsInterface, info_size, map_sizes}
+use Rattle.cjc_card_acts.specs.CardSemantics.Machine.Classes.{Info, IsClass, IsInterface, info_size, map_sizes}
 use Rattle.cjc_check_rules.specs.declared.spot.ComponentPlace.{ComponentPlace}
 use Rattle.cjc_check_rules.specs.ClassRefs.{maps_begin}
 use Rattle.cjc_check_rules.specs.Classes.{first_class, first_interface}
 use Rattle.cjc_check_rules.specs.Complete.{class_size, interface_size, map_size}
 use Rattle.cjc_check_rules.specs.Spots.{beside, in_info, unless}
-use Rattle.cjc_classes.specs.Components.Class.{fields_of, first_reference_token, implemented, info_flags}
-use Rattle.cjc_classes.specs.Components.Class.{interface_entry}
-use Rattle.cjc_classes.specs.Components.Class.{reference_count, superclass}
-use Rattle.cjc_pairing.specs.VTable.Tables.{table_of}
-use Rattle.cjc_classes.specs.Tokens.Fields.{instance_cells}
+use Rattle.cjc_classes.specs.LowerComponents.Class.{fields_of, first_reference_token, implemented, info_flags}
+use Rattle.cjc_classes.specs.LowerComponents.Class.{interface_entry}
+use Rattle.cjc_classes.specs.LowerComponents.Class.{reference_count, superclass}
+use Rattle.cjc_classes.specs.VTable.Tables.{table_of}
+use Rattle.cjc_methods.specs.Tokens.Fields.{instance_cells}
 use Rattle.cjc_world.specs.Classes.{Class}
 use Rattle.cjc_world.specs.Order.{class_order}
 use Rattle.std.proofs.lemmas.List.Sums.{sum_by-cons}

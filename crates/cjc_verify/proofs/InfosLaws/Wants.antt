@@ -10,18 +10,19 @@ use Rattle.cjc_bytes.proofs.Bools.{both_front, not_true}
 use Rattle.cjc_bytes.proofs.Lists.{map_same}
 use Rattle.cjc_capread.specs.declared.tree.ClassRef.{ClassRef}
 use Rattle.cjc_capread.specs.declared.tree.ClassEntry.{ClassEntry}
-use Rattle.cjc_card_calls.specs.ClassFile.declared.tree.ClassTree.{ClassTree}
-use Rattle.cjc_card_calls.specs.ClassFile.declared.tree.FieldTree.{FieldTree}
+use Rattle.cjc_world.specs.ClassFile.declared.tree.ClassTree.{ClassTree}
+use Rattle.cjc_world.specs.ClassFile.declared.tree.FieldTree.{FieldTree}
 use Rattle.cjc_world.specs.declared.found.Found.{Found}
 use Rattle.cjc_world.specs.Files.{Files}
 use Rattle.cjc_world.specs.Classes.{Class, all_classes, declared}
 use Rattle.cjc_world.specs.Order.{and_then, class_order, in_order, is_in, is_of_kind, lined_up, may_stand, next, waits}
-use Rattle.cjc_classes.specs.Tokens.Fields.{instance_cells}
-use Rattle.cjc_pairing.specs.VTable.declared.table.ClassTable.{ClassTable}
-use Rattle.cjc_pairing.specs.VTable.Tables.{class_tables, table_of}
-use Rattle.cjc_classes.specs.Components.Class.{fields_in, fields_of, first_reference_token, implemented, info_flags}
-use Rattle.cjc_classes.specs.Components.Class.{interface_entry, reference_count}
-use Rattle.cjc_pairing.specs.ClassOrder.Classes.Numbers.{declared_at}
+use Rattle.cjc_methods.specs.Tokens.Fields.{instance_cells}
+use Rattle.cjc_classes.specs.VTable.declared.table.ClassTable.{ClassTable}
+use Rattle.cjc_classes.specs.VTable.Tables.{class_tables, table_of}
+use Rattle.cjc_classes.specs.LowerComponents.Class.{fields_in, fields_of, first_reference_token, implemented}
+use Rattle.cjc_classes.specs.LowerComponents.Class.{info_flags}
+use Rattle.cjc_classes.specs.LowerComponents.Class.{interface_entry, reference_count}
+use Rattle.cjc_classes.specs.ClassOrder.Classes.Numbers.{declared_at}
 use Rattle.cjc_classes.specs.ClassInfo.Entries.{entry_by, entry_by_offset, with_numbers}
 use Rattle.cjc_verify.specs.Infos.{public_entry}
 use Rattle.cjc_verify.specs.Pairs.{Pair, class_ref, method_offset, world}

@@ -3,8 +3,8 @@ use Rattle.std.specs.Prelude.{List, [], ◌∷◌, if◌then◌else◌}
 use Rattle.cjc_bytes.specs.AccessFlags.{is_static}
 use Rattle.cjc_capread.specs.declared.tree.ClassRef.{ClassRef}
 use Rattle.cjc_capread.specs.declared.tree.MethodDescriptor.{MethodDescriptor}
-use Rattle.cjc_card_acts.specs.Frames.declared.acts.Given.{Given}
-use Rattle.cjc_card_acts.specs.Frames.declared.acts.Given.TheVariants.{AnObject}
+use Rattle.cjc_card_acts.specs.LowerFrames.declared.acts.Given.{Given}
+use Rattle.cjc_card_acts.specs.LowerFrames.declared.acts.Given.TheVariants.{AnObject}
 use Rattle.cjc_verify.specs.ClassTypes.{class_type}
 
 -- the receiver of a method that is not static, listed under a class

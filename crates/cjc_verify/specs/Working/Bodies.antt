@@ -5,13 +5,13 @@ use Rattle.cjc_bytes.specs.declared.breaks.BrokenAt.{BrokenAt}
 use Rattle.cjc_capread.specs.Decoder.Decoded.{header_of}
 use Rattle.cjc_capread.specs.declared.tree.ClassDescriptor.{ClassDescriptor}
 use Rattle.cjc_capread.specs.declared.tree.ClassInfo.{ClassInfo}
-use Rattle.cjc_methods.specs.Check.Codes.Bodies.{placed_of}
+use Rattle.cjc_methods.specs.LowerCheck.Codes.Bodies.{placed_of}
 use Rattle.cjc_check_rules.specs.Classes.{is_own_class}
 use Rattle.cjc_check_rules.specs.Consistent.{break_at}
 use Rattle.cjc_check_rules.specs.Spots.{in_info}
 use Rattle.cjc_card_acts.specs.CardTypes.{is_type_of}
-use Rattle.cjc_card_acts.specs.Types.declared.state.State.{State}
-use Rattle.cjc_card_acts.specs.Frames.Tables.{Breach, IsLeastTable}
+use Rattle.cjc_classes.specs.Types.declared.state.State.{State}
+use Rattle.cjc_card_acts.specs.LowerFrames.Tables.{Breach, IsLeastTable}
 use Rattle.cjc_verify.specs.Bodies.{Body, frames_of, listed_in}
 use Rattle.cjc_verify.specs.Headers.{has_code, header_spots}
 use Rattle.cjc_verify.specs.Named.{holds}

@@ -1,18 +1,18 @@
 -- What is made of a package before its components are tested.
 use Rattle.std.specs.Prelude.{◌≡◌, ℕ, List, [], ◌∷◌, length, map, flat_map, Some}
-use Rattle.cjc_card_calls.specs.CardFrame.Kinds.{cell_name_of}
-use Rattle.cjc_card_calls.specs.CardFrame.declared.parts.kinds.CellName.{CellName}
-use Rattle.cjc_card_calls.specs.CardLink.Group.{files_from}
-use Rattle.cjc_card_calls.specs.CardLink.Names.{class_names_of}
-use Rattle.cjc_card_calls.specs.CardLink.declared.names.ClassNames.{ClassNames}
-use Rattle.cjc_card_calls.specs.CardSemantics.Machine.Loaded.{Loaded}
+use Rattle.cjc_card_acts.specs.CardFrame.Kinds.{cell_name_of}
+use Rattle.cjc_card_acts.specs.CardFrame.declared.parts.kinds.CellName.{CellName}
+use Rattle.cjc_card_calls.specs.LowerCardLink.Group.{files_from}
+use Rattle.cjc_card_calls.specs.LowerCardLink.Names.{class_names_of}
+use Rattle.cjc_card_calls.specs.LowerCardLink.declared.names.ClassNames.{ClassNames}
+use Rattle.cjc_card_acts.specs.CardSemantics.Machine.Loaded.{Loaded}
 use Rattle.cjc_check_rules.specs.Complete.{Complete}
 use Rattle.cjc_check_rules.specs.Described.{all_starts}
 use Rattle.cjc_classes.specs.ClassInfo.Refs.{ref_of}
-use Rattle.cjc_classes.specs.Components.Paired.Naming.{cells_in, class_names, exported_in}
-use Rattle.cjc_card_calls.specs.ExportFile.declared.tree.ExportTree.{ExportTree}
-use Rattle.cjc_pairing.specs.ClassOrder.Classes.Numbers.{declared_at}
-use Rattle.cjc_classes.specs.Tokens.Tokens.{Assigned}
+use Rattle.cjc_classes.specs.LowerComponents.Paired.Naming.{cells_in, class_names, exported_in}
+use Rattle.cjc_world.specs.ExportFile.declared.tree.ExportTree.{ExportTree}
+use Rattle.cjc_classes.specs.ClassOrder.Classes.Numbers.{declared_at}
+use Rattle.cjc_methods.specs.Tokens.Tokens.{Assigned}
 use Rattle.cjc_world.specs.Classes.{Class, all_classes}
 use Rattle.cjc_world.specs.Files.{Files}
 use Rattle.cjc_world.specs.Order.{class_order}

@@ -1,7 +1,7 @@
 -- Operands of an instruction as code looks at them.
 use Rattle.std.specs.Prelude.{ℕ, List, [], ◌∷◌, Bool, true, false, Option, Some, None, ℤ, pos, negsuc}
-use Rattle.cjc_card_calls.specs.CardFrame.declared.opcodes.kinds.Use.{Use}
-use Rattle.cjc_card_calls.specs.CardFrame.declared.opcodes.kinds.Use.TheVariants as uses
+use Rattle.cjc_card_acts.specs.CardFrame.declared.opcodes.kinds.Use.{Use}
+use Rattle.cjc_card_acts.specs.CardFrame.declared.opcodes.kinds.Use.TheVariants as uses
 
 -- a number from 0 on
 abbrev pub natural : ℤ → Option ℕ

@@ -4,15 +4,15 @@ use Rattle.cjc_card_calls.specs.declared.files.files.Files.{Files as Kept}
 use Rattle.cjc_card_calls.specs.declared.lines.lines.Lines.{Lines}
 use Rattle.cjc_card_calls.specs.Files.Files.{AreFiles}
 use Rattle.cjc_card_calls.specs.Lines.Lines.{AreLines}
-use Rattle.cjc_card_calls.specs.CardLink.declared.tables.Tables.{Tables}
-use Rattle.cjc_card_calls.specs.CardLink.Tables.{AreKept, loaded_of}
-use Rattle.cjc_card_calls.specs.CheckIndex.Lookup.Parts.{complete_of}
-use Rattle.cjc_card_calls.specs.CheckIndex.declared.lookup.parts.Parts.{Parts}
+use Rattle.cjc_card_calls.specs.LowerCardLink.declared.tables.Tables.{Tables}
+use Rattle.cjc_card_calls.specs.LowerCardLink.Tables.{AreKept, loaded_of}
+use Rattle.cjc_pairing.specs.CheckIndex.Lookup.Parts.{complete_of}
+use Rattle.cjc_pairing.specs.CheckIndex.declared.lookup.parts.Parts.{Parts}
 use Rattle.cjc_check_rules.specs.Complete.{AreSmall}
 use Rattle.cjc_classes.specs.ClassInfo.Refs.{ref_of}
 use Rattle.cjc_classes.specs.declared.class_info.refs.ClassRefs.{ClassRefs}
-use Rattle.cjc_pairing.specs.ClassOrder.Classes.Numbers.{declared_at}
-use Rattle.cjc_classes.specs.Tokens.Tokens.{Assigned}
+use Rattle.cjc_classes.specs.ClassOrder.Classes.Numbers.{declared_at}
+use Rattle.cjc_methods.specs.Tokens.Tokens.{Assigned}
 use Rattle.cjc_world.specs.declared.image.StaticImage.{StaticImage}
 use Rattle.cjc_world.specs.Files.{Files}
 use Rattle.cjc_world.specs.Order.{class_order}

@@ -6,7 +6,7 @@ ghost use Rattle.cjc_check_rules.specs.Spots.{first};
 ghost use Rattle.cjc_bytes.specs.declared.fault.MemberId.{MemberId as Member};
 ghost use Rattle.cjc_world.specs.declared.image.ArrayCell.{ArrayCell as Array};
 ghost use Rattle.cjc_world.specs.declared.image.ValueCell.{ValueCell as Value};
-ghost use Rattle.cjc_classes.specs.Components.Statics.{cell_order};
+ghost use Rattle.cjc_classes.specs.LowerComponents.Statics.{cell_order};
 ghost use Rattle.cjc_verify.specs.Described.{array_number, is_number};
 ghost use Rattle.cjc_verify.specs.WantedDescriptor.{array_differs, arrays_differ};
 

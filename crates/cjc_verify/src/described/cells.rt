@@ -3,8 +3,8 @@
 
 ghost use Rattle.std.specs.Prelude.{◌≡◌, ◌++◌, ◌==◌, map, option_and_then, option_map, position, slice_get, IfOk, OnOk};
 ghost use Rattle.cjc_bytes.specs.declared.fault.MemberId.{MemberId as Member};
-ghost use Rattle.cjc_pairing.specs.NCode.declared.narrow.PoolKey.TheVariants.{StaticField};
-ghost use Rattle.cjc_classes.specs.Components.Statics.{cell_order};
+ghost use Rattle.cjc_classes.specs.NCode.declared.narrow.PoolKey.TheVariants.{StaticField};
+ghost use Rattle.cjc_classes.specs.LowerComponents.Statics.{cell_order};
 ghost use Rattle.cjc_world.specs.declared.image.ArrayCell.{ArrayCell as Array};
 ghost use Rattle.cjc_world.specs.declared.image.ValueCell.{ValueCell as Value};
 ghost use Rattle.cjc_verify.specs.Cells.{AreCells, desc_of_key, kept_desc};

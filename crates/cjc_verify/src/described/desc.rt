@@ -4,7 +4,7 @@
 ghost use Rattle.std.specs.Prelude.{◌≡◌, map, IfOk};
 ghost use Rattle.std.specs.List.{list_all};
 ghost use Rattle.cjc_bytes.specs.Descriptor.{Part};
-ghost use Rattle.cjc_card_calls.specs.Script.Sorts.{result_by, signature_of, sort_of};
+ghost use Rattle.cjc_card_acts.specs.Script.Sorts.{result_by, signature_of, sort_of};
 ghost use Rattle.cjc_classes.specs.ClassInfo.Refs.{ref_of};
 ghost use Rattle.cjc_classes.specs.TypeInfo.Meant.{sort_meant};
 ghost use Rattle.cjc_verify.specs.Pairs.{is_card_result, is_card_sort, is_card_type};

@@ -3,7 +3,7 @@
 
 ghost use Rattle.std.specs.Prelude.{◌≡◌, ◌+◌, ◌++◌, ◌<◌, ◌^◌, length, IfOk, OnOk};
 ghost use Rattle.std.specs.List.{flat_map};
-ghost use Rattle.cjc_card_calls.specs.Script.Sorts.{field_sort};
+ghost use Rattle.cjc_card_acts.specs.Script.Sorts.{field_sort};
 ghost use Rattle.cjc_classes.specs.ClassInfo.Refs.{ref_of};
 ghost use Rattle.cjc_classes.specs.Descriptor.Working.Described.{number_in, token_in};
 ghost use Rattle.cjc_verify.specs.Made.{inputs_of};

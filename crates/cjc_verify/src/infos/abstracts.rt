@@ -4,7 +4,7 @@
 ghost use Rattle.std.specs.Prelude.{◌≡◌, ◌+◌, ◌++◌, ◌||◌, ◌<◌, ◌^◌, ℕ, Bool, drop, length, map, not, IfOk, OnOk};
 ghost use Rattle.std.specs.List.{flat_map};
 ghost use Rattle.cjc_bytes.specs.AccessFlags.{acc_abstract, has, is_interface};
-ghost use Rattle.cjc_card_calls.specs.CardSemantics.Machine.Dispatch.{Hidden, Open};
+ghost use Rattle.cjc_card_acts.specs.CardSemantics.Machine.Dispatch.{Hidden, Open};
 ghost use Rattle.cjc_check_rules.specs.Classes.{first_class};
 ghost use Rattle.cjc_check_rules.specs.Complete.{class_info_size, class_size};
 ghost use Rattle.cjc_check_rules.specs.Spots.{beside, first};

@@ -4,8 +4,8 @@
 ghost use Rattle.std.specs.Prelude.{◌≡◌, ◌++◌, ℕ, List, Bool, map, option_to_list, IfOk, OnOk};
 ghost use Rattle.cjc_world.specs.declared.found.Found.{Found as Member};
 ghost use Rattle.cjc_world.specs.Classes.{all_classes};
-ghost use Rattle.cjc_classes.specs.Tokens.Tokens.{assigned};
-ghost use Rattle.cjc_pairing.specs.ClassOrder.Classes.Numbers.{declared_at};
+ghost use Rattle.cjc_methods.specs.Tokens.Tokens.{assigned};
+ghost use Rattle.cjc_classes.specs.ClassOrder.Classes.Numbers.{declared_at};
 ghost use Rattle.cjc_classes.specs.ClassInfo.Refs.{ref_of};
 ghost use Rattle.cjc_classes.specs.ClassInfo.Entries.{entry_by, entry_by_offset};
 ghost use Rattle.cjc_verify.specs.Pairs.{Pair, class_ref, method_offset};

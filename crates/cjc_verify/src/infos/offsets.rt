@@ -6,7 +6,7 @@ ghost use Rattle.std.specs.List.{find};
 ghost use Rattle.cjc_world.specs.declared.found.Found.{Found as Member};
 ghost use Rattle.cjc_world.specs.Classes.{all_classes, declared};
 ghost use Rattle.cjc_world.specs.Order.{class_order, methods_of_class};
-ghost use Rattle.cjc_pairing.specs.ClassOrder.Classes.Numbers.{declared_at};
+ghost use Rattle.cjc_classes.specs.ClassOrder.Classes.Numbers.{declared_at};
 ghost use Rattle.cjc_verify.specs.Pairs.{Pair, method_offset, same_found};
 ghost use Rattle.cjc_verify.specs.Offsets.{ats_at, ats_by, ats_in, offset_among};
 

@@ -4,12 +4,12 @@
 
 ghost use Rattle.std.specs.Prelude.{◌≡◌, ◌+◌, ◌++◌, ◌<◌, ◌^◌, ℕ, List, Some, map, option_map, IfOk, OnOk};
 ghost use Rattle.cjc_capread.specs.declared.tree.ClassRef.TheVariants.{Inside};
-ghost use Rattle.cjc_card_calls.specs.CardSemantics.Machine.Classes.{or_else};
+ghost use Rattle.cjc_card_acts.specs.CardSemantics.Machine.Classes.{or_else};
 ghost use Rattle.cjc_check_rules.specs.Classes.{first_class, first_interface};
 ghost use Rattle.cjc_check_rules.specs.Complete.{class_info_size, class_size, interface_size};
 ghost use Rattle.cjc_check_rules.specs.Spots.{starts as starts_from};
 ghost use Rattle.cjc_check_rules.specs.Described.{all_starts};
-ghost use Rattle.cjc_pairing.specs.ClassOrder.Classes.Numbers.{declared_at};
+ghost use Rattle.cjc_classes.specs.ClassOrder.Classes.Numbers.{declared_at};
 ghost use Rattle.cjc_world.specs.Classes.{all_classes};
 ghost use Rattle.cjc_world.specs.Order.{class_order};
 ghost use Rattle.cjc_classes.specs.ClassInfo.Refs.{ref_in, ref_of};

@@ -1,8 +1,8 @@
-use Rattle.cjc_theorem.specs.Judge.Rules.{settings_of}
+use Rattle.cjc_theorem.specs.LowerJudge.Rules.{settings_of}
 use Rattle.cjc_verified_proof.specs.Dispatching.{package_of}
 use Rattle.cjc_verify_theorem.proofs.PassedLaws.{checks, free, sound, unbroken}
 use Rattle.cjc_verify_theorem.proofs.never_stuck.Goals as goal
-use Rattle.cjc_theorem.specs.World.Classes.{all_classes}
+use Rattle.cjc_verified_proof.specs.World.Classes.{all_classes}
 
 pub returns : goal.returns
 returns c = λ list files tested judged cap components image is fair.

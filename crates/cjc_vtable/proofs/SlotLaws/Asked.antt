@@ -4,7 +4,7 @@ use Rattle.std.proofs.Common.{append-nil, inl, inr, ⊎_elim}
 use Rattle.std.specs.Prelude.{Some, if◌then◌else◌, slice_get, map, not, ◌&&◌, ◌||◌, ◌⊎◌}
 use Rattle.std.specs.List.{list_any}
 use Rattle.std.proofs.lemmas.Bool.{or_right}
-use Rattle.cjc_tokens.specs.Bytes.AccessFlags.{is_abstract, is_interface, is_private, is_static}
+use Rattle.cjc_world.specs.Bytes.AccessFlags.{is_abstract, is_interface, is_private, is_static}
 use Rattle.cjc_world.specs.Classes.{Member, Class, class_named}
 use Rattle.cjc_world.specs.Interfaces.{gathered, known}
 use Rattle.cjc_world.specs.Supertypes.{Supertypes, AreSupertypes, Lists, after, ends, foremost, supertypes, known_here}

@@ -1,6 +1,6 @@
 -- What the code holds of added methods and of an interface's methods in a class.
 use Rattle.std.specs.Prelude.{ℕ, List, [], Option, None, Some, if◌then◌else◌}
-use Rattle.cjc_tokens.specs.Bytes.declared.fault.MemberId.{MemberId}
+use Rattle.cjc_world.specs.Bytes.declared.fault.MemberId.{MemberId}
 use Rattle.cjc_world.specs.declared.found.Found.{Found}
 use Rattle.cjc_world.specs.Files.{Files}
 use Rattle.cjc_world.specs.Added.{added_at}

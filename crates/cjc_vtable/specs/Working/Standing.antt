@@ -1,8 +1,8 @@
 -- The classes of a package by their numbers.
 use Rattle.std.specs.Prelude.{◌≡◌, ◌<◌, ℕ, slice_get, false, Some}
-use Rattle.cjc_tokens.specs.Bytes.AccessFlags.{is_interface}
+use Rattle.cjc_world.specs.Bytes.AccessFlags.{is_interface}
 use Rattle.cjc_order.specs.Classes.Numbers.{class_count}
-use Rattle.cjc_order.specs.ClassFile.declared.tree.ClassTree.{ClassTree}
+use Rattle.cjc_world.specs.ClassFile.declared.tree.ClassTree.{ClassTree}
 use Rattle.cjc_world.specs.Files.{Files}
 use Rattle.cjc_world.specs.Classes.{Class, declared}
 

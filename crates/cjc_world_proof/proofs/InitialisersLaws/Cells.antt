@@ -8,14 +8,14 @@ use Rattle.cjc_bytes.specs.declared.fault.MemberId.{MemberId}
 use Rattle.cjc_bytes.specs.declared.descriptor.Kind.{Kind}
 use Rattle.cjc_bytes.proofs.Lists.{map_append}
 use Rattle.cjc_bytes.proofs.Numbers.{none_behind}
-use Rattle.cjc_vtable.specs.ClassFile.declared.tree.ClassTree.{ClassTree}
-use Rattle.cjc_vtable.specs.ClassFile.declared.tree.FieldTree.{FieldTree}
-use Rattle.cjc_jvm_semantics.specs.Bytecode.declared.method_code.MethodCode.{MethodCode}
-use Rattle.cjc_jvm_semantics.specs.Script.declared.value.Value.{Value}
-use Rattle.cjc_jvm_semantics.specs.Script.declared.value.Value.TheVariants.{Num, Null}
-use Rattle.cjc_jvm_semantics.specs.Script.declared.report.FieldValue.{FieldValue}
-use Rattle.cjc_jvm_semantics.specs.Script.Sorts.{Sort, Boolean, Byte, Short, Int, Reference, NoValue, field_sort}
-use Rattle.cjc_jvm_semantics.specs.Script.Sorts.{zero_of}
+use Rattle.cjc_world.specs.ClassFile.declared.tree.ClassTree.{ClassTree}
+use Rattle.cjc_world.specs.ClassFile.declared.tree.FieldTree.{FieldTree}
+use Rattle.cjc_clinit.specs.Bytecode.declared.method_code.MethodCode.{MethodCode}
+use Rattle.cjc_jvm_semantics.specs.LowerScript.declared.value.Value.{Value}
+use Rattle.cjc_jvm_semantics.specs.LowerScript.declared.value.Value.TheVariants.{Num, Null}
+use Rattle.cjc_jvm_semantics.specs.LowerScript.declared.report.FieldValue.{FieldValue}
+use Rattle.cjc_jvm_semantics.specs.LowerScript.Sorts.{Sort, Boolean, Byte, Short, Int, Reference, NoValue, field_sort}
+use Rattle.cjc_jvm_semantics.specs.LowerScript.Sorts.{zero_of}
 use Rattle.cjc_world.specs.declared.image.ArrayCell.{ArrayCell}
 use Rattle.cjc_world.specs.declared.image.ValueCell.{ValueCell}
 use Rattle.cjc_world.specs.declared.image.StaticImage.{StaticImage}

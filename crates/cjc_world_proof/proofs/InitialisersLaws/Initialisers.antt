@@ -9,13 +9,13 @@ use Rattle.cjc_bytes.proofs.Bools.{and_true}
 use Rattle.cjc_bytes.proofs.Lists.{bytes_true}
 use Rattle.cjc_bytes.proofs.Options.{option_taken}
 use Rattle.cjc_bytes.specs.declared.descriptor.Kind.TheVariants as kinds
-use Rattle.cjc_vtable.specs.ClassFile.declared.tree.ClassTree.{ClassTree}
-use Rattle.cjc_vtable.specs.ClassFile.declared.tree.FieldTree.{FieldTree}
-use Rattle.cjc_jvm_semantics.specs.Bytecode.declared.insn.JOp.{JOp}
-use Rattle.cjc_jvm_semantics.specs.Bytecode.declared.insn.JOp.TheVariants as jop
-use Rattle.cjc_jvm_semantics.specs.Script.declared.value.Value.{Value}
-use Rattle.cjc_jvm_semantics.specs.Script.declared.value.Value.TheVariants.{Num, Null, Obj}
-use Rattle.cjc_jvm_semantics.specs.Script.declared.report.FieldValue.{FieldValue}
+use Rattle.cjc_world.specs.ClassFile.declared.tree.ClassTree.{ClassTree}
+use Rattle.cjc_world.specs.ClassFile.declared.tree.FieldTree.{FieldTree}
+use Rattle.cjc_clinit.specs.Bytecode.declared.insn.JOp.{JOp}
+use Rattle.cjc_clinit.specs.Bytecode.declared.insn.JOp.TheVariants as jop
+use Rattle.cjc_jvm_semantics.specs.LowerScript.declared.value.Value.{Value}
+use Rattle.cjc_jvm_semantics.specs.LowerScript.declared.value.Value.TheVariants.{Num, Null, Obj}
+use Rattle.cjc_jvm_semantics.specs.LowerScript.declared.report.FieldValue.{FieldValue}
 use Rattle.cjc_world.specs.declared.image.StaticImage.{StaticImage}
 use Rattle.cjc_world.specs.Files.{Files}
 use Rattle.cjc_jvm_semantics.specs.ByName.{linked}
@@ -24,7 +24,7 @@ use Rattle.cjc_jvm_semantics.specs.Linked.{Linked, Method}
 use Rattle.cjc_clinit.specs.declared.stage.Held.{Held}
 use Rattle.cjc_clinit.specs.Fields.{Contents, array_desc, fits_kind, held_by, is_reference, number_kind, takes}
 use Rattle.cjc_clinit.specs.Image.{field_id, own_field}
-use Rattle.cjc_jvm_semantics.specs.Bytecode.Jvm.{return}
+use Rattle.cjc_clinit.specs.Bytecode.Jvm.{return}
 use Rattle.cjc_clinit.specs.Initialiser.{open_place, Initialises, Makes, Put}
 use Rattle.cjc_clinit.specs.Initialiser.Initialises.{ends, puts}
 use Rattle.cjc_clinit.specs.Initialiser.Makes.{of_number, of_null, of_array}

@@ -13,9 +13,9 @@ use Rattle.cjc_bytes.proofs.Bools.{and_true, not_true}
 use Rattle.cjc_bytes.proofs.Lists.{bytes_true}
 use Rattle.cjc_bytes.proofs.Numbers.{number_same}
 use Rattle.cjc_bytes.proofs.Gets.{position_there}
-use Rattle.cjc_vtable.specs.ClassFile.declared.tree.ClassTree.{ClassTree}
-use Rattle.cjc_vtable.specs.ClassFile.declared.tree.FieldTree.{FieldTree}
-use Rattle.cjc_vtable.specs.ExportFile.Members.{may_be_constant}
+use Rattle.cjc_world.specs.ClassFile.declared.tree.ClassTree.{ClassTree}
+use Rattle.cjc_world.specs.ClassFile.declared.tree.FieldTree.{FieldTree}
+use Rattle.cjc_world.specs.ExportFile.Members.{may_be_constant}
 use Rattle.cjc_world.specs.declared.found.Found.{Found}
 use Rattle.cjc_world.specs.declared.image.StaticImage.{StaticImage}
 use Rattle.cjc_world.specs.Files.{Files}

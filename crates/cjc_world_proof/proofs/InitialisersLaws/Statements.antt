@@ -14,17 +14,17 @@ use Rattle.cjc_bytes.proofs.Bools.{and_true}
 use Rattle.cjc_bytes.proofs.Gets.{map_set, at_end}
 use Rattle.cjc_bytes.proofs.Numbers.{at_most}
 use Rattle.cjc_bytes.proofs.Integers.{above_if, by_ends_8}
-use Rattle.cjc_vtable.specs.Range.Words.{low_word, low_byte}
+use Rattle.cjc_clinit.specs.Range.Words.{low_word, low_byte}
 use Rattle.cjc_vtable.proofs.RangeWords.{fits16, low_byte_fixed, low_word_fixed}
-use Rattle.cjc_jvm_semantics.specs.Bytecode.declared.insn.JInsn.{JInsn}
-use Rattle.cjc_jvm_semantics.specs.Bytecode.declared.insn.JOp.{JOp}
-use Rattle.cjc_jvm_semantics.specs.Bytecode.declared.insn.JOp.TheVariants as jop
-use Rattle.cjc_jvm_semantics.specs.Script.declared.value.Value.{Value}
-use Rattle.cjc_jvm_semantics.specs.Script.declared.value.Value.TheVariants.{Num, Null, Obj}
-use Rattle.cjc_jvm_semantics.specs.Script.declared.report.Thing.{Thing}
-use Rattle.cjc_jvm_semantics.specs.Script.declared.report.Thing.TheVariants.{Array}
-use Rattle.cjc_jvm_semantics.specs.Script.Sorts.{Element, Booleans, Bytes, Shorts, Ints, OfNumbers, array_name}
-use Rattle.cjc_jvm_semantics.specs.Script.Sorts.{array_of, shape_named}
+use Rattle.cjc_clinit.specs.Bytecode.declared.insn.JInsn.{JInsn}
+use Rattle.cjc_clinit.specs.Bytecode.declared.insn.JOp.{JOp}
+use Rattle.cjc_clinit.specs.Bytecode.declared.insn.JOp.TheVariants as jop
+use Rattle.cjc_jvm_semantics.specs.LowerScript.declared.value.Value.{Value}
+use Rattle.cjc_jvm_semantics.specs.LowerScript.declared.value.Value.TheVariants.{Num, Null, Obj}
+use Rattle.cjc_jvm_semantics.specs.LowerScript.declared.report.Thing.{Thing}
+use Rattle.cjc_jvm_semantics.specs.LowerScript.declared.report.Thing.TheVariants.{Array}
+use Rattle.cjc_jvm_semantics.specs.LowerScript.Sorts.{Element, Booleans, Bytes, Shorts, Ints, OfNumbers, array_name}
+use Rattle.cjc_jvm_semantics.specs.LowerScript.Sorts.{array_of, shape_named}
 use Rattle.cjc_jvm_semantics.specs.Effects.{Go, Store, effect, values_with, value_in, is_same_kind, only_if, with_some}
 use Rattle.cjc_jvm_semantics.specs.Effects.{element_of, cut, stores, serves, of_references, is_kind}
 use Rattle.cjc_jvm_semantics.specs.Effects.{array_in as with_array, item_at, item_if, with_new_numbers}
@@ -33,7 +33,7 @@ use Rattle.cjc_jvm_semantics.specs.Linked.{Linked, Method, Static}
 use Rattle.cjc_jvm_semantics.specs.OnePackage.{static_array, array_desc}
 use Rattle.cjc_clinit.specs.Fields.{Contents, fits, lies_in}
 use Rattle.cjc_clinit.specs.Image.{array_in}
-use Rattle.cjc_jvm_semantics.specs.Bytecode.Jvm.{dup}
+use Rattle.cjc_clinit.specs.Bytecode.Jvm.{dup}
 use Rattle.cjc_clinit.specs.Initialiser.{element_kind, store, ops_of, Stores, Makes}
 use Rattle.cjc_clinit.specs.Initialiser.Stores.{none, one}
 use Rattle.cjc_clinit.specs.Initialiser.Makes.{of_number, of_null, of_array}

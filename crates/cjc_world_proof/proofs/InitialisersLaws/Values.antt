@@ -8,14 +8,14 @@ use Rattle.cjc_bytes.proofs.Gets.{set_length, set_same, set_other}
 use Rattle.cjc_bytes.proofs.Numbers.{same_place, length_replicated}
 use Rattle.cjc_bytes.proofs.Lists.{map_append, length_mapped}
 use Rattle.cjc_bytes.proofs.Options.{option_taken}
-use Rattle.cjc_vtable.specs.ClassFile.declared.tree.ClassTree.{ClassTree}
-use Rattle.cjc_vtable.specs.ClassFile.declared.tree.FieldTree.{FieldTree}
-use Rattle.cjc_jvm_semantics.specs.Bytecode.declared.insn.JOp.{JOp}
-use Rattle.cjc_jvm_semantics.specs.Bytecode.declared.method_code.MethodCode.{MethodCode}
-use Rattle.cjc_jvm_semantics.specs.Script.declared.value.Value.{Value}
-use Rattle.cjc_jvm_semantics.specs.Script.declared.value.Value.TheVariants.{Obj}
-use Rattle.cjc_jvm_semantics.specs.Script.declared.report.FieldValue.{FieldValue}
-use Rattle.cjc_jvm_semantics.specs.Script.declared.report.Thing.{Thing}
+use Rattle.cjc_world.specs.ClassFile.declared.tree.ClassTree.{ClassTree}
+use Rattle.cjc_world.specs.ClassFile.declared.tree.FieldTree.{FieldTree}
+use Rattle.cjc_clinit.specs.Bytecode.declared.insn.JOp.{JOp}
+use Rattle.cjc_clinit.specs.Bytecode.declared.method_code.MethodCode.{MethodCode}
+use Rattle.cjc_jvm_semantics.specs.LowerScript.declared.value.Value.{Value}
+use Rattle.cjc_jvm_semantics.specs.LowerScript.declared.value.Value.TheVariants.{Obj}
+use Rattle.cjc_jvm_semantics.specs.LowerScript.declared.report.FieldValue.{FieldValue}
+use Rattle.cjc_jvm_semantics.specs.LowerScript.declared.report.Thing.{Thing}
 use Rattle.cjc_world.specs.declared.image.ArrayCell.{ArrayCell}
 use Rattle.cjc_world.specs.declared.image.StaticImage.{StaticImage}
 use Rattle.cjc_world.specs.Files.{Files}

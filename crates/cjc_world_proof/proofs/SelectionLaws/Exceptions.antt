@@ -5,7 +5,7 @@ use Rattle.std.specs.Str.{bytes_eq}
 use Rattle.cjc_jvm_semantics.specs.Effects.{Arithmetic, ArrayStore, ClassCast, Fault, IndexOutside, NegativeSize}
 use Rattle.cjc_jvm_semantics.specs.Effects.{NullPointer, exception_class}
 use Rattle.cjc_jvm_semantics.specs.OnePackage.{is_plain_import}
-use Rattle.cjc_vtable.specs.ExportFile.declared.tree.ExportTree.{ExportTree}
+use Rattle.cjc_world.specs.ExportFile.declared.tree.ExportTree.{ExportTree}
 use Rattle.cjc_world_proof.specs.Files.{ExportsAreSound}
 use Rattle.cjc_world.specs.Classes.{Class, all_classes, class_named}
 use Rattle.cjc_world.specs.Files.{Files}

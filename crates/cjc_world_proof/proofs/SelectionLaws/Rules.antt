@@ -15,19 +15,19 @@ use Rattle.cjc_bytes.specs.declared.settings.Settings.{Settings}
 use Rattle.cjc_bytes.proofs.Lists.{bytes_true, none_left, none_left as nil_front, none_right, none_right as nil_back}
 use Rattle.cjc_bytes.proofs.BrokenRules.{not_broken, each_at}
 use Rattle.cjc_bytes.proofs.Bools.{bool_four, both_true}
-use Rattle.cjc_vtable.specs.ClassFile.declared.tree.ClassTree.{ClassTree}
-use Rattle.cjc_vtable.specs.ClassFile.declared.tree.FieldTree.{FieldTree}
-use Rattle.cjc_vtable.specs.ClassFile.declared.tree.MethodTree.{MethodTree}
-use Rattle.cjc_jvm_semantics.specs.Bytecode.declared.method_code.MethodCode.{MethodCode}
-use Rattle.cjc_vtable.specs.ExportFile.declared.tree.ExportTree.{ExportTree}
-use Rattle.cjc_vtable.specs.Subset.Checks.{check_breaks, class_breaks, code_breaks, field_breaks, list_breaks}
-use Rattle.cjc_vtable.specs.Subset.Checks.{method_breaks}
-use Rattle.cjc_vtable.specs.Subset.Checks.{own_breaks}
-use Rattle.cjc_vtable.specs.Subset.Flags.{is_unfit_field, is_unfit_method}
-use Rattle.cjc_vtable.specs.Subset.Limits.{has_deep_stack, has_many_locals}
-use Rattle.cjc_vtable.specs.Subset.Overriding.{supertype_breaks, lacks_code, overriding_breaks}
-use Rattle.cjc_vtable.specs.Subset.Places.{at_class, at_field, at_method}
-use Rattle.cjc_vtable.specs.Subset.Types.{is_unsupported_desc, is_int_desc}
+use Rattle.cjc_world.specs.ClassFile.declared.tree.ClassTree.{ClassTree}
+use Rattle.cjc_world.specs.ClassFile.declared.tree.FieldTree.{FieldTree}
+use Rattle.cjc_world.specs.ClassFile.declared.tree.MethodTree.{MethodTree}
+use Rattle.cjc_clinit.specs.Bytecode.declared.method_code.MethodCode.{MethodCode}
+use Rattle.cjc_world.specs.ExportFile.declared.tree.ExportTree.{ExportTree}
+use Rattle.cjc_clinit.specs.Subset.Checks.{check_breaks, class_breaks, code_breaks, field_breaks, list_breaks}
+use Rattle.cjc_clinit.specs.Subset.Checks.{method_breaks}
+use Rattle.cjc_clinit.specs.Subset.Checks.{own_breaks}
+use Rattle.cjc_clinit.specs.Subset.Flags.{is_unfit_field, is_unfit_method}
+use Rattle.cjc_clinit.specs.Subset.Limits.{has_deep_stack, has_many_locals}
+use Rattle.cjc_clinit.specs.Subset.Overriding.{supertype_breaks, lacks_code, overriding_breaks}
+use Rattle.cjc_clinit.specs.Subset.Places.{at_class, at_field, at_method}
+use Rattle.cjc_clinit.specs.Subset.Types.{is_unsupported_desc, is_int_desc}
 use Rattle.cjc_vtable.proofs.Filed.{Every, every-append, every-named}
 use Rattle.cjc_vtable.proofs.Ruled.{any-false}
 use Rattle.cjc_world.specs.Classes.{Class, all_classes, class_named, classes_from, declared, imported, numbered}

@@ -12,18 +12,18 @@ use Rattle.cjc_bytes.proofs.Lists.{bytes_true}
 use Rattle.cjc_bytes.proofs.Gets.{any_off}
 use Rattle.cjc_jvm_semantics.specs.OnePackage.{ResolvedMember as NameHit, is_constructor, is_initialiser}
 use Rattle.cjc_world_proof.specs.Calls.Solid.{HasCode, IsConcrete, IsOwn, IsSolid}
-use Rattle.cjc_vtable.specs.ClassFile.Code.{CodeTree}
-use Rattle.cjc_vtable.specs.ClassFile.declared.tree.ClassTree.{ClassTree}
-use Rattle.cjc_vtable.specs.ClassFile.declared.tree.FieldTree.{FieldTree}
-use Rattle.cjc_vtable.specs.ClassFile.declared.tree.MethodTree.{MethodTree}
-use Rattle.cjc_jvm_semantics.specs.Bytecode.declared.method_code.MethodCode.{MethodCode}
+use Rattle.cjc_world.specs.ClassFile.Code.{CodeTree}
+use Rattle.cjc_world.specs.ClassFile.declared.tree.ClassTree.{ClassTree}
+use Rattle.cjc_world.specs.ClassFile.declared.tree.FieldTree.{FieldTree}
+use Rattle.cjc_world.specs.ClassFile.declared.tree.MethodTree.{MethodTree}
+use Rattle.cjc_clinit.specs.Bytecode.declared.method_code.MethodCode.{MethodCode}
 use Rattle.cjc_world_proof.specs.Files.{IsClean}
 use Rattle.cjc_world_proof.proofs.SelectionLaws.Rules.{field_kept, keeps, listed_abroad, listed_interface, method_kept}
 use Rattle.cjc_world_proof.proofs.SelectionLaws.Rules.{only_object, own_coded, super_class}
-use Rattle.cjc_vtable.specs.Subset.Checks.{check_breaks}
-use Rattle.cjc_vtable.specs.Subset.Flags.{has_two_accesses, is_unfit_method}
-use Rattle.cjc_vtable.specs.Subset.Members.{ResolvedMember, hit, hit_of, imports}
-use Rattle.cjc_vtable.specs.Subset.Overriding.{has_no_code, is_unfit_selection, lacks_code}
+use Rattle.cjc_clinit.specs.Subset.Checks.{check_breaks}
+use Rattle.cjc_clinit.specs.Subset.Flags.{has_two_accesses, is_unfit_method}
+use Rattle.cjc_clinit.specs.Subset.Members.{ResolvedMember, hit, hit_of, imports}
+use Rattle.cjc_clinit.specs.Subset.Overriding.{has_no_code, is_unfit_selection, lacks_code}
 use Rattle.cjc_world.specs.Upwards.{Below, IsOrdered, OnLine}
 use Rattle.cjc_world.proofs.UpwardLaws.Lines.{below_line, has_interface_above, line_is_below, roots}
 use Rattle.cjc_vtable.specs.Kept.{IsUnbroken}

@@ -2,14 +2,14 @@
 -- a script.
 use Rattle.std.specs.Prelude.{◌≡◌, ℕ, List, [], ◌∷◌, ◌++◌, replicate, slice_get, Option, Some, None, is_some, Bool}
 use Rattle.std.specs.Prelude.{true, if◌then◌else◌, ℤ}
-use Rattle.cjc_vtable.specs.ClassFile.declared.tree.ClassTree.{ClassTree}
-use Rattle.cjc_vtable.specs.ClassFile.declared.tree.FieldTree.{FieldTree}
-use Rattle.cjc_vtable.specs.ClassFile.declared.tree.MethodTree.{MethodTree}
-use Rattle.cjc_jvm_semantics.specs.Bytecode.declared.method_code.MethodCode.{MethodCode}
-use Rattle.cjc_jvm_semantics.specs.Script.declared.value.Value.{Value}
-use Rattle.cjc_jvm_semantics.specs.Script.declared.value.Value.TheVariants.{Num}
-use Rattle.cjc_jvm_semantics.specs.Script.declared.report.FieldValue.{FieldValue}
-use Rattle.cjc_jvm_semantics.specs.Script.Sorts.{field_sort, zero_of}
+use Rattle.cjc_world.specs.ClassFile.declared.tree.ClassTree.{ClassTree}
+use Rattle.cjc_world.specs.ClassFile.declared.tree.FieldTree.{FieldTree}
+use Rattle.cjc_world.specs.ClassFile.declared.tree.MethodTree.{MethodTree}
+use Rattle.cjc_clinit.specs.Bytecode.declared.method_code.MethodCode.{MethodCode}
+use Rattle.cjc_jvm_semantics.specs.LowerScript.declared.value.Value.{Value}
+use Rattle.cjc_jvm_semantics.specs.LowerScript.declared.value.Value.TheVariants.{Num}
+use Rattle.cjc_jvm_semantics.specs.LowerScript.declared.report.FieldValue.{FieldValue}
+use Rattle.cjc_jvm_semantics.specs.LowerScript.Sorts.{field_sort, zero_of}
 use Rattle.cjc_world.specs.Files.{Files}
 use Rattle.cjc_clinit.specs.Fields.{is_cell, is_reference, number_kind}
 use Rattle.cjc_clinit.specs.Image.{field_id, initialised}

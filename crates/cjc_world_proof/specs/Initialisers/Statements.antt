@@ -1,11 +1,11 @@
 -- What the machine by name does at the instructions of an initialiser.
 use Rattle.std.specs.Prelude.{◌≡◌, ℕ, ◌≤◌, List, [], ◌∷◌, ◌++◌, drop, length, map, slice_get, Option, Some}
 use Rattle.cjc_bytes.specs.declared.fault.MemberId.{MemberId}
-use Rattle.cjc_jvm_semantics.specs.Bytecode.declared.insn.JInsn.{JInsn}
-use Rattle.cjc_jvm_semantics.specs.Bytecode.declared.insn.JOp.{JOp}
-use Rattle.cjc_jvm_semantics.specs.Bytecode.declared.insn.JOp.TheVariants as jop
-use Rattle.cjc_jvm_semantics.specs.Script.declared.value.Value.{Value}
-use Rattle.cjc_jvm_semantics.specs.Script.declared.value.Value.TheVariants.{Num, Null, Obj}
+use Rattle.cjc_clinit.specs.Bytecode.declared.insn.JInsn.{JInsn}
+use Rattle.cjc_clinit.specs.Bytecode.declared.insn.JOp.{JOp}
+use Rattle.cjc_clinit.specs.Bytecode.declared.insn.JOp.TheVariants as jop
+use Rattle.cjc_jvm_semantics.specs.LowerScript.declared.value.Value.{Value}
+use Rattle.cjc_jvm_semantics.specs.LowerScript.declared.value.Value.TheVariants.{Num, Null, Obj}
 use Rattle.cjc_clinit.specs.Fields.{Contents, ANumber, ANull, AnArray}
 use Rattle.cjc_clinit.specs.Image.{array_in}
 use Rattle.cjc_clinit.specs.Initialiser.{ops_of}

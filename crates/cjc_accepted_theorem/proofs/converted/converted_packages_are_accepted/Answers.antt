@@ -1,5 +1,5 @@
 use Rattle.cjc_accepted_theorem.proofs.converted.converted_packages_are_accepted.Goals as goal
-use Rattle.cjc_theorem.specs.Bytecode.PackageCodes.{all_codes}
+use Rattle.cjc_verified_proof.specs.Bytecode.PackageCodes.{all_codes}
 use Rattle.cjc_theorem.proofs.AlikeLaws.MetLaws.LaidOut.{laid_out}
 
 pub returns : goal.returns

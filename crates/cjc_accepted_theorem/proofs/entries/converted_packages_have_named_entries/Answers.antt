@@ -1,9 +1,9 @@
 use Rattle.cjc_accepted_theorem.proofs.LeftLaws.{all_named}
 use Rattle.cjc_accepted_theorem.proofs.entries.converted_packages_have_named_entries.Goals as goal
-use Rattle.cjc_theorem.specs.Bytecode.PackageCodes.{all_codes}
+use Rattle.cjc_verified_proof.specs.Bytecode.PackageCodes.{all_codes}
 use Rattle.cjc_theorem.proofs.AlikeLaws.MetLaws.Cells.{cells_fit}
 use Rattle.cjc_theorem.proofs.AlikeLaws.MetLaws.LaidOut.{laid_out}
-use Rattle.cjc_theorem.specs.TokenProof.Tables.Known.{statics_of}
+use Rattle.cjc_verified_proof.specs.TokenProof.Tables.Known.{statics_of}
 
 pub returns : goal.returns
 returns c = λ list files judged p is others.

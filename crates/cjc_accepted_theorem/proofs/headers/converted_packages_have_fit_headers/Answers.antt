@@ -1,6 +1,6 @@
 use Rattle.cjc_accepted_theorem.proofs.HeadersLaws.{headers_fit}
 use Rattle.cjc_accepted_theorem.proofs.headers.converted_packages_have_fit_headers.Goals as goal
-use Rattle.cjc_theorem.specs.Bytecode.PackageCodes.{all_codes}
+use Rattle.cjc_verified_proof.specs.Bytecode.PackageCodes.{all_codes}
 use Rattle.cjc_theorem.proofs.ShapeProofFiles.{files_sound}
 use Rattle.cjc_verified_proof.proofs.TokenProofOrder.{own_names}
 use Rattle.cjc_verified_proof.proofs.TokenProofWrittenCallsIds.{own_ids}

@@ -1,10 +1,10 @@
 use Rattle.cjc_accepted_theorem.proofs.RefsLaws.{refs_read}
 use Rattle.cjc_accepted_theorem.proofs.read.converted_packages_have_their_types.Goals as goal
-use Rattle.cjc_theorem.specs.Components.Package.{world}
+use Rattle.cjc_verified_proof.specs.Components.Package.{world}
 use Rattle.cjc_theorem.proofs.ShapeProofFiles.{files_sound}
 use Rattle.cjc_theorem.proofs.AlikeLaws.MetLaws.LaidOut.{laid_out}
 use Rattle.cjc_verified_proof.proofs.TokenProofAbove.{says_kinds}
-use Rattle.cjc_theorem.specs.TokenProof.Tables.Loading.{naming}
+use Rattle.cjc_verified_proof.specs.TokenProof.Tables.Loading.{naming}
 
 pub returns-clause-refs : goal.returns-clause-refs
 returns-clause-refs c = λ list files judged p is. refs_read list.name p (files_sound list files judged p is)

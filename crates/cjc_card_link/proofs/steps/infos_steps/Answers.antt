@@ -1,6 +1,6 @@
 use Rattle.std.proofs.Common.{List, map, ap, ◌∙◌}
-use Rattle.cjc_check_index.specs.CapRead.declared.tree.ClassEntry.{ClassEntry}
-use Rattle.cjc_check_index.specs.CapRead.declared.tree.InterfaceEntry.{InterfaceEntry}
+use Rattle.cjc_card_semantics.specs.CapRead.declared.tree.ClassEntry.{ClassEntry}
+use Rattle.cjc_card_semantics.specs.CapRead.declared.tree.InterfaceEntry.{InterfaceEntry}
 use Rattle.cjc_card_semantics.specs.Machine.Classes.{IsClass, IsInterface, info_steps}
 use Rattle.cjc_card_link.proofs.Stepping.{info_steps-append, summed}
 use Rattle.cjc_card_link.proofs.steps.infos_steps.Goals as goal

@@ -1,6 +1,6 @@
 use Rattle.std.proofs.Common.{refl}
 use Rattle.std.specs.Int.{int_wrap}
-use Rattle.cjc_export.specs.LowerBytes.Spots.{after, bad_at, types_from, parts_of, desc_of}
+use Rattle.cjc_export.specs.Bytes.Spots.{after, bad_at, types_from, parts_of, desc_of}
 use Rattle.cjc_capread.specs.Opcodes.{forms, form}
 use Rattle.cjc_export.specs.Supers.{upwards_from}
 use Rattle.cjc_card_semantics.specs.Bytecode.Meanings.{meaning}

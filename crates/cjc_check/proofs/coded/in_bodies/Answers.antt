@@ -7,7 +7,7 @@ use Rattle.cjc_check.specs.Jumps.Listing.{wanted_ones, wanted_twos}
 use Rattle.cjc_check.specs.Jumps.Offsets.{index_spot, operand_at}
 use Rattle.cjc_check.proofs.JumpsLaws.Apart.{codes_apart}
 use Rattle.cjc_check.specs.Jumps.Standing.{AreApart, handler_stands}
-use Rattle.cjc_check_tables.specs.LowerCheckIndex.Lookup.Parts.{complete_of}
+use Rattle.cjc_check_tables.specs.CheckIndex.Lookup.Parts.{complete_of}
 use Rattle.cjc_check.specs.declared.jumps.indices.IndexAt.{IndexAt}
 use Rattle.cjc_check_rules.specs.Codes.{Code}
 use Rattle.cjc_check_rules.specs.Handlers.{targets_from}

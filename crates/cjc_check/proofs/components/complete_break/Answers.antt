@@ -1,4 +1,4 @@
-use Rattle.cjc_check_tables.specs.LowerCheckIndex.Lookup.Parts.{complete_of}
+use Rattle.cjc_check_tables.specs.CheckIndex.Lookup.Parts.{complete_of}
 use Rattle.cjc_check.proofs.components.complete_break.Goals as goal
 
 pub returns : goal.returns

@@ -1,6 +1,6 @@
 use Rattle.std.proofs.Common.{subst, sym}
 use Rattle.std.specs.Prelude.{Option}
-use Rattle.cjc_check_rules.specs.Bytes.Breaks.{Break, IsFirstOf}
+use Rattle.cjc_capread.specs.Bytes.Breaks.{Break, IsFirstOf}
 use Rattle.cjc_check_rules.specs.Consistent.{breaks_of, sentence}
 use Rattle.cjc_check.proofs.FirstPlaces.{first_break}
 use Rattle.cjc_check.proofs.order.with_sentence.Goals as goal

@@ -1,6 +1,6 @@
 -- Answers as they are looked up: of a class by its place among all.
 use Rattle.std.specs.Prelude.{ℕ, List, [], get_or, Bool, false, Option, Some, None}
-use Rattle.cjc_check_rules.specs.LowerExportFile.declared.tree.ExportClass.{ExportClass}
+use Rattle.cjc_check_rules.specs.ExportFile.declared.tree.ExportClass.{ExportClass}
 
 -- in rows by token
 abbrev pub answer_by_token : List (List Bool) → (token : ℕ) → Option ℕ → Bool

@@ -7,7 +7,7 @@ use Rattle.std.specs.Hash as writes
 use Rattle.std.proofs.lemmas.Slice.Eq.{bytes_eq-Decides}
 use Rattle.std.proofs.Common.{ap}
 use Rattle.indexmap.specs.IndexMap.{IndexMap, get}
-use Rattle.cjc_check_rules.specs.LowerExportFile.declared.tree.ExportClass.{ExportClass}
+use Rattle.cjc_check_rules.specs.ExportFile.declared.tree.ExportClass.{ExportClass}
 
 -- ---- names in a map
 

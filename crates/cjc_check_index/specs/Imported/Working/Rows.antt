@@ -2,11 +2,11 @@
 use Rattle.std.specs.Prelude.{ℕ, ◌==◌, ◌&&◌, ◌||◌, not, List, map, get_or, set, Bool, true, false, if◌then◌else◌}
 use Rattle.std.specs.Prelude.{is_none}
 use Rattle.std.specs.List.{list_any}
-use Rattle.cjc_check_rules.specs.Bytes.AccessFlags.{is_static}
-use Rattle.cjc_check_rules.specs.LowerExportFile.declared.tree.ExportClass.{ExportClass}
-use Rattle.cjc_check_rules.specs.LowerExportFile.declared.tree.ExportField.{ExportField}
-use Rattle.cjc_check_rules.specs.LowerExportFile.declared.tree.ExportMethod.{ExportMethod}
-use Rattle.cjc_check_rules.specs.LowerExportFile.Supers.{is_virtual, upwards}
+use Rattle.cjc_check_rules.specs.LowerBytes.AccessFlags.{is_static}
+use Rattle.cjc_check_rules.specs.ExportFile.declared.tree.ExportClass.{ExportClass}
+use Rattle.cjc_check_rules.specs.ExportFile.declared.tree.ExportField.{ExportField}
+use Rattle.cjc_check_rules.specs.ExportFile.declared.tree.ExportMethod.{ExportMethod}
+use Rattle.cjc_check_rules.specs.ExportFile.Supers.{is_virtual, upwards}
 use Rattle.cjc_check_rules.specs.Members.{is_unbound}
 use Rattle.cjc_check_index.specs.Imported.Working.Graph.{places}
 

@@ -1,7 +1,7 @@
 -- What classes have or inherit, by token, before the rest is known.
 use Rattle.std.specs.Prelude.{◌≡◌, List}
-use Rattle.cjc_check_rules.specs.LowerExportFile.declared.tree.ExportClass.{ExportClass}
-use Rattle.cjc_check_rules.specs.LowerExportFile.Supers.{has_virtual, inherits_virtual}
+use Rattle.cjc_check_rules.specs.ExportFile.declared.tree.ExportClass.{ExportClass}
+use Rattle.cjc_check_rules.specs.ExportFile.Supers.{has_virtual, inherits_virtual}
 use Rattle.cjc_check_index.specs.declared.imported.tokens.Upwards.{Upwards}
 use Rattle.cjc_check_index.specs.Imported.Tokens.{by_token, has_field}
 

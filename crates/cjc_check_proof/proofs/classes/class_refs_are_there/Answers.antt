@@ -2,10 +2,10 @@ use Rattle.std.proofs.Common.{◌≡◌, ℕ, ◌+◌, refl, sym, ap, ◌∙◌,
 use Rattle.std.specs.Prelude.{if◌then◌else◌, Some, is_some, map, slice_get, unwrap_or}
 use Rattle.cjc_capread.specs.declared.tree.ClassRef.{ClassRef}
 use Rattle.cjc_capread.specs.declared.tree.FieldPlace.TheVariants as places
-use Rattle.cjc_components.specs.Clinit.Image.{field_id}
+use Rattle.cjc_pool.specs.Clinit.Image.{field_id}
 use Rattle.cjc_world.specs.Lookup.{member_at}
 use Rattle.cjc_components.specs.Statics.{cell_offset}
-use Rattle.cjc_tokens.specs.ClassFile.declared.tree.FieldTree.{FieldTree}
+use Rattle.cjc_world.specs.ClassFile.declared.tree.FieldTree.{FieldTree}
 use Rattle.cjc_bytes.specs.AccessFlags.{is_static}
 use Rattle.cjc_check_rules.specs.Spots.{along, in_info}
 use Rattle.cjc_check_rules.specs.Complete.{interface_size, class_size, described_size, type_size, map_size}
@@ -26,7 +26,7 @@ use Rattle.cjc_vtable.specs.Tables.{interface_map, table_of}
 use Rattle.cjc_vtable.proofs.Filed.{Has, has-get}
 use Rattle.cjc_ncode.specs.declared.narrow.PoolKey.{PoolKey}
 use Rattle.cjc_ncode.specs.declared.narrow.PoolKey.TheVariants as keys
-use Rattle.cjc_ncode.specs.Script.Sorts.{signature_of}
+use Rattle.cjc_token_proof.specs.Script.Sorts.{signature_of}
 use Rattle.cjc_ncode.specs.Lowering.Naming.{entry_of}
 use Rattle.cjc_components.specs.Package.{Package, pool, world}
 use Rattle.cjc_components.specs.Class.{class_info, class_entry, interface_entry, implemented, interfaces_of, superclass}

@@ -14,7 +14,7 @@ use Rattle.cjc_check_rules.specs.Spots.{in_info, along}
 use Rattle.cjc_check_rules.specs.Complete.{applet_size}
 use Rattle.cjc_check_rules.specs.Members.{is_static_start}
 use Rattle.cjc_check_rules.specs.Statics.{applets_of, install_spot}
-use Rattle.cjc_vtable.specs.Subset.Applets.{is_applet, is_install, is_unfit_applet, is_unfit_class}
+use Rattle.cjc_pool.specs.Subset.Applets.{is_applet, is_install, is_unfit_applet, is_unfit_class}
 use Rattle.cjc_world.specs.declared.found.Found.{Found}
 use Rattle.cjc_world.specs.Classes.{Member, Class, class_named}
 use Rattle.cjc_world.specs.Supertypes.{supertypes, line}

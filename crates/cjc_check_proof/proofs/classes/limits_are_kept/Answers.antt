@@ -1,7 +1,7 @@
 use Rattle.std.proofs.Common.{◌≡◌, ℕ, ◌≤◌, refl, arith, Bool, true, false, length}
 use Rattle.std.specs.Prelude.{◌||◌, nat_lt}
 use Rattle.std.proofs.lemmas.Bool.Decides.{nat_tests}
-use Rattle.cjc_components.specs.CapWrite.Class.{class_info_bytes}
+use Rattle.cjc_pool.specs.CapWrite.Class.{class_info_bytes}
 use Rattle.cjc_components.specs.Class.{class_info}
 use Rattle.cjc_components.specs.Names.{class_ref}
 use Rattle.cjc_token_proof.proofs.ComponentsLaws.Sizes.{classes_are}

@@ -2,10 +2,10 @@ use Rattle.std.proofs.Common.{◌≡◌, ℕ, zero, suc, ◌+◌, ◌-◌, ◌<�
 use Rattle.std.proofs.Common.{sym, ap, subst, ◌∙◌, arith}
 use Rattle.std.specs.Prelude.{Option, Some, None, is_some, map, flat_map, slice_get, unwrap_or, if◌then◌else◌, codes}
 use Rattle.std.specs.Str.{bytes_eq}
-use Rattle.cjc_tokens.specs.ClassFile.declared.tree.ClassTree.{ClassTree}
-use Rattle.cjc_tokens.specs.ClassFile.declared.tree.FieldTree.{FieldTree}
-use Rattle.cjc_ncode.specs.Script.Sorts.{Sort, Boolean, Byte, Short, Int, Reference, NoValue, field_sort}
-use Rattle.cjc_components.specs.Clinit.Fields.{is_reference}
+use Rattle.cjc_world.specs.ClassFile.declared.tree.ClassTree.{ClassTree}
+use Rattle.cjc_world.specs.ClassFile.declared.tree.FieldTree.{FieldTree}
+use Rattle.cjc_token_proof.specs.Script.Sorts.{Sort, Boolean, Byte, Short, Int, Reference, NoValue, field_sort}
+use Rattle.cjc_pool.specs.Clinit.Fields.{is_reference}
 use Rattle.cjc_check_rules.specs.Spots.{in_info, along}
 use Rattle.cjc_check_rules.specs.Complete.{described_size}
 use Rattle.cjc_check_rules.specs.ClassRefs.{fields_begin}
@@ -25,7 +25,7 @@ use Rattle.cjc_components.specs.Descriptor.{as_added, methods_with_added, method
 use Rattle.cjc_vtable.proofs.Filed.{Has, at_front, behind, get-has, has-get}
 use Rattle.cjc_token_proof.proofs.ComponentsLaws.Tests.{passes, none_in_both}
 use Rattle.cjc_token_proof.specs.Tables.Sound.{AreTyped, IsTyped}
-use Rattle.cjc_ncode.specs.CardSemantics.Machine.ByToken.{letter_of}
+use Rattle.cjc_token_proof.specs.CardSemantics.Machine.ByToken.{letter_of}
 use Rattle.cjc_token_proof.specs.ByToken.Objects.{is_reference as is_reference_sort}
 use Rattle.cjc_tokens.specs.Fields.{is_reference as begins_reference}
 use Rattle.cjc_check_proof.proofs.ClassesLaws.Lists.{get-map, has-front, has-back}

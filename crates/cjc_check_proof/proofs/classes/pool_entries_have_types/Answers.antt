@@ -2,8 +2,8 @@ use Rattle.std.proofs.Common.{◌≡◌, ℕ, ◌+◌, ◌==◌, Bool, true, fal
 use Rattle.std.specs.Prelude.{◌&&◌, ◌||◌, not, nat_lt, flat_map}
 use Rattle.std.specs.List.{list_any}
 use Rattle.std.proofs.lemmas.Bool.Decides.{nat_tests}
-use Rattle.cjc_components.specs.CapWrite.Files.{is_wide}
-use Rattle.cjc_components.specs.CapWrite.Descriptor.{types_bytes}
+use Rattle.cjc_pool.specs.CapWrite.Files.{is_wide}
+use Rattle.cjc_pool.specs.CapWrite.Descriptor.{types_bytes}
 use Rattle.cjc_check_rules.specs.Spots.{in_info}
 use Rattle.cjc_check_rules.specs.ClassRefs.{pool_count_at}
 use Rattle.cjc_check_rules.specs.Described.{is_type, type_of_entry}

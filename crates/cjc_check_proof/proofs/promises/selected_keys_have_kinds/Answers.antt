@@ -1,4 +1,4 @@
-use Rattle.cjc_components.specs.Narrow.Written.Rows.{rows_by}
+use Rattle.cjc_pool.specs.Narrow.Written.Rows.{rows_by}
 use Rattle.cjc_check_proof.proofs.PromisesLaws.KeyKinds.{selected_has_kinds}
 use Rattle.cjc_check_proof.proofs.promises.selected_keys_have_kinds.Goals as goal
 

@@ -2,7 +2,7 @@ use Rattle.std.proofs.Common.{◌≡◌, Bool, true, false, ℕ, List, [], ◌�
 use Rattle.std.specs.Prelude.{◌&&◌, flat_map}
 use Rattle.std.specs.List.{list_all, AllByRecursion}
 use Rattle.std.proofs.lemmas.Bool.{and_from}
-use Rattle.cjc_export.specs.LowerBytes.Breaks.{Break}
+use Rattle.cjc_export.specs.Bytes.Breaks.{Break}
 use Rattle.cjc_export.specs.declared.tree.ExportTree.{ExportTree}
 use Rattle.cjc_check_rules.specs.Spots.{ComponentPlace}
 use Rattle.cjc_check_rules.specs.Complete.{Complete, complete}

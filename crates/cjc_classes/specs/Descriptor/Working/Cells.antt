@@ -7,8 +7,8 @@ use Rattle.std.specs.Map.{lookup}
 use Rattle.indexmap.specs.IndexMap.{IndexMap, get}
 use Rattle.std.proofs.Common.{ap}
 use Rattle.cjc_bytes.specs.declared.fault.MemberId.{MemberId}
-use Rattle.cjc_components.specs.NCode.PoolOrder.{same_member}
-use Rattle.cjc_components.specs.Narrow.Keys.Working.Same.{same_member-Decides}
+use Rattle.cjc_components.specs.LowerNCode.PoolOrder.{same_member}
+use Rattle.cjc_components.specs.LowerNarrow.Keys.Working.Same.{same_member-Decides}
 use Rattle.cjc_components.specs.Statics.{offset_from, size_of_field}
 
 -- ---- fields in a map

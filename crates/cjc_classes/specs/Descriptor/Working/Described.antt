@@ -4,25 +4,25 @@ use Rattle.std.specs.Prelude.{unwrap_or, Option, Some, None, false, if◌then◌
 use Rattle.std.specs.Str.{bytes_eq}
 use Rattle.cjc_bytes.specs.AccessFlags.{is_static, acc_abstract}
 use Rattle.cjc_bytes.specs.declared.fault.MemberId.{MemberId}
-use Rattle.cjc_components.specs.CapRead.declared.tree.ClassRef.{ClassRef}
-use Rattle.cjc_components.specs.CapRead.declared.tree.FieldDescriptor.{FieldDescriptor}
-use Rattle.cjc_components.specs.CapRead.declared.tree.FieldPlace.{FieldPlace}
-use Rattle.cjc_components.specs.CapRead.declared.tree.FieldPlace.TheVariants as places
-use Rattle.cjc_components.specs.CapRead.declared.tree.FieldType.{FieldType}
-use Rattle.cjc_components.specs.CapRead.declared.tree.FieldType.TheVariants as types
-use Rattle.cjc_components.specs.CapRead.declared.tree.MethodDescriptor.{MethodDescriptor}
-use Rattle.cjc_components.specs.CapRead.declared.tree.ClassDescriptor.{ClassDescriptor}
-use Rattle.cjc_components.specs.Script.Sorts.{Sort, Boolean, Byte, Short, Int, Reference, NoValue, field_sort}
-use Rattle.cjc_tokens.specs.ClassFile.declared.tree.ClassTree.{ClassTree}
-use Rattle.cjc_tokens.specs.ClassFile.declared.tree.FieldTree.{FieldTree}
-use Rattle.cjc_tokens.specs.ClassFile.declared.tree.MethodTree.{MethodTree}
+use Rattle.cjc_components.specs.LowerCapRead.declared.tree.ClassRef.{ClassRef}
+use Rattle.cjc_components.specs.LowerCapRead.declared.tree.FieldDescriptor.{FieldDescriptor}
+use Rattle.cjc_components.specs.LowerCapRead.declared.tree.FieldPlace.{FieldPlace}
+use Rattle.cjc_components.specs.LowerCapRead.declared.tree.FieldPlace.TheVariants as places
+use Rattle.cjc_components.specs.LowerCapRead.declared.tree.FieldType.{FieldType}
+use Rattle.cjc_components.specs.LowerCapRead.declared.tree.FieldType.TheVariants as types
+use Rattle.cjc_components.specs.LowerCapRead.declared.tree.MethodDescriptor.{MethodDescriptor}
+use Rattle.cjc_components.specs.LowerCapRead.declared.tree.ClassDescriptor.{ClassDescriptor}
+use Rattle.cjc_components.specs.LowerScript.Sorts.{Sort, Boolean, Byte, Short, Int, Reference, NoValue, field_sort}
+use Rattle.cjc_world.specs.ClassFile.declared.tree.ClassTree.{ClassTree}
+use Rattle.cjc_world.specs.ClassFile.declared.tree.FieldTree.{FieldTree}
+use Rattle.cjc_world.specs.ClassFile.declared.tree.MethodTree.{MethodTree}
 use Rattle.cjc_world.specs.Files.{Files}
 use Rattle.cjc_world.specs.Classes.{Class, all_classes, declared}
 use Rattle.cjc_world.specs.Added.{added_at as added_of}
 use Rattle.cjc_tokens.specs.Fields.{is_constant}
 use Rattle.cjc_tokens.specs.Members.{is_constructor}
 use Rattle.cjc_tokens.specs.Tokens.{Assigned, token_of_class, token_of_member}
-use Rattle.cjc_components.specs.NCode.declared.narrow.PoolKey.{PoolKey}
+use Rattle.cjc_components.specs.LowerNCode.declared.narrow.PoolKey.{PoolKey}
 use Rattle.cjc_components.specs.Class.{interfaces_of}
 use Rattle.cjc_classes.specs.declared.descriptor.parts.Extent.{Extent}
 use Rattle.cjc_components.specs.Descriptor.{added_flags, class_flags, field_flags, flag_where}

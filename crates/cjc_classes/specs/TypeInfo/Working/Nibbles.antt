@@ -1,8 +1,8 @@
 -- The nibbles of a descriptor by its parts.
 use Rattle.std.specs.Prelude.{ℕ, List, ◌++◌, map, flat_map, if◌then◌else◌}
 use Rattle.cjc_bytes.specs.Descriptor.{Parts}
-use Rattle.cjc_components.specs.CapRead.declared.tree.ClassRef.{ClassRef}
-use Rattle.cjc_components.specs.Script.Sorts.{result_by, signature_of, sort_of}
+use Rattle.cjc_components.specs.LowerCapRead.declared.tree.ClassRef.{ClassRef}
+use Rattle.cjc_components.specs.LowerScript.Sorts.{result_by, signature_of, sort_of}
 use Rattle.cjc_components.specs.Types.{nibbles_by, result_nibbles, sort_nibbles}
 
 -- where class_refs are these

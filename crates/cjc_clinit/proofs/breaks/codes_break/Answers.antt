@@ -4,7 +4,7 @@ use Rattle.cjc_bytes.specs.Breaks.{each}
 use Rattle.cjc_bytes.specs.Told.{break_of}
 use Rattle.cjc_bytes.proofs.Firsts.{each_none, each_more, each_all}
 use Rattle.cjc_bytes.proofs.Options.{mapped_2}
-use Rattle.cjc_subset.specs.Bytecode.declared.method_code.MethodCode.{MethodCode}
+use Rattle.cjc_subset.specs.LowerBytecode.declared.method_code.MethodCode.{MethodCode}
 use Rattle.cjc_clinit.specs.Working.Reading.{after_code, after_codes, code_breaks, puts}
 use Rattle.cjc_clinit.proofs.Effects.{joining}
 use Rattle.cjc_clinit.proofs.Walks.{codes-next, codes-end}

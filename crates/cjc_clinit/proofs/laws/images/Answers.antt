@@ -1,7 +1,7 @@
 use Rattle.std.proofs.Common.{refl, [], ◌∷◌}
-use Rattle.cjc_subset.specs.World.Classes.{classes_from, all_classes, class_named}
-use Rattle.cjc_subset.specs.World.Supertypes.{supertypes_within, supertypes}
-use Rattle.cjc_subset.specs.World.Lookup.{own_field, find_field}
+use Rattle.cjc_subset.specs.LowerWorld.Classes.{classes_from, all_classes, class_named}
+use Rattle.cjc_subset.specs.LowerWorld.Supertypes.{supertypes_within, supertypes}
+use Rattle.cjc_subset.specs.LowerWorld.Lookup.{own_field, find_field}
 use Rattle.cjc_clinit.specs.Initialiser.{open_place}
 use Rattle.cjc_clinit.specs.Working.Reading.{stage_after, state_after, read, after_initialiser, after_code, after_codes}
 use Rattle.cjc_clinit.specs.Worked.{files, replaced_held, replaced_image, statements_held, statements_image}

@@ -1,8 +1,8 @@
 use Rattle.std.proofs.Common.{refl, [], ◌∷◌, negsuc, codes}
-use Rattle.cjc_subset.specs.Bytecode.declared.insn.JOp.TheVariants as jop
-use Rattle.cjc_subset.specs.World.Classes.{classes_from, all_classes, class_named}
-use Rattle.cjc_subset.specs.World.Supertypes.{supertypes_within, supertypes}
-use Rattle.cjc_subset.specs.World.Lookup.{own_field, find_field}
+use Rattle.cjc_subset.specs.LowerBytecode.declared.insn.JOp.TheVariants as jop
+use Rattle.cjc_subset.specs.LowerWorld.Classes.{classes_from, all_classes, class_named}
+use Rattle.cjc_subset.specs.LowerWorld.Supertypes.{supertypes_within, supertypes}
+use Rattle.cjc_subset.specs.LowerWorld.Lookup.{own_field, find_field}
 use Rattle.cjc_clinit.specs.Initialiser.{open_place}
 use Rattle.cjc_clinit.specs.Working.Reading.{stage_after, state, state_after, read}
 use Rattle.cjc_clinit.specs.declared.stage.Held.TheVariants as held

@@ -2,8 +2,8 @@ use Rattle.std.proofs.Common.{List, subst}
 use Rattle.std.specs.Prelude.{Result, Ok, Err, Option, IfOk, option_map}
 use Rattle.cjc_bytes.specs.Breaks.{Break, IsFirstOf}
 use Rattle.cjc_bytes.specs.Told.{break_of}
-use Rattle.cjc_subset.specs.Bytecode.declared.method_code.MethodCode.{MethodCode}
-use Rattle.cjc_subset.specs.World.Files.{Files}
+use Rattle.cjc_subset.specs.LowerBytecode.declared.method_code.MethodCode.{MethodCode}
+use Rattle.cjc_subset.specs.LowerWorld.Files.{Files}
 use Rattle.cjc_clinit.specs.Rules.{IsFirstBroken}
 use Rattle.cjc_clinit.specs.Working.Reading.{image_breaks}
 use Rattle.cjc_clinit.proofs.Told.{image-is}

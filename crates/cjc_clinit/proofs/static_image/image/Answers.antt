@@ -5,9 +5,9 @@ use Rattle.cjc_bytes.specs.Breaks.{IsFirstOf}
 use Rattle.cjc_bytes.specs.Told.{break_of}
 use Rattle.cjc_bytes.proofs.BrokenRules.{break_kept}
 use Rattle.cjc_bytes.proofs.Gets.{written_back}
-use Rattle.cjc_subset.specs.Bytecode.declared.method_code.MethodCode.{MethodCode}
-use Rattle.cjc_subset.specs.ClassFile.declared.tree.ClassTree.{ClassTree}
-use Rattle.cjc_subset.specs.World.declared.image.ArrayCell.{ArrayCell}
+use Rattle.cjc_subset.specs.LowerBytecode.declared.method_code.MethodCode.{MethodCode}
+use Rattle.cjc_subset.specs.LowerClassFile.declared.tree.ClassTree.{ClassTree}
+use Rattle.cjc_subset.specs.LowerWorld.declared.image.ArrayCell.{ArrayCell}
 use Rattle.cjc_clinit.specs.declared.stage.Held.{Held}
 use Rattle.cjc_clinit.specs.Initialiser.{nothing_in}
 use Rattle.cjc_clinit.specs.Working.Reading.{after_codes, image_breaks, puts}

@@ -1,7 +1,7 @@
 use Rattle.std.proofs.Common.{◌≡◌, ◌∙◌, ap, List}
 use Rattle.std.specs.Prelude.{Result, Ok, Err, IfOk}
-use Rattle.cjc_subset.specs.ClassFile.declared.tree.ClassTree.{ClassTree}
-use Rattle.cjc_subset.specs.World.declared.image.StaticImage.{StaticImage}
+use Rattle.cjc_subset.specs.LowerClassFile.declared.tree.ClassTree.{ClassTree}
+use Rattle.cjc_subset.specs.LowerWorld.declared.image.StaticImage.{StaticImage}
 use Rattle.cjc_clinit.specs.Image.{IsImage, image_of}
 use Rattle.cjc_clinit.proofs.Effects.{image-so}
 use Rattle.cjc_clinit.proofs.static_image.image_after.Goals as goal

@@ -1,6 +1,6 @@
 use Rattle.std.proofs.Common.{List, ℕ}
 use Rattle.std.proofs.lemmas.Result.{err_from_is_err_and}
-use Rattle.cjc_cmd_check.specs.Shelf.Command.Plan.{read}
+use Rattle.cjc_cmd_check.specs.LowerShelf.Command.Plan.{read}
 use Rattle.cjc_cmd_check.proofs.ShelfGathering.{gathers_then, gathers_end}
 use Rattle.cjc_cmd_compat.specs.Compat.{Compares, plan_of_new}
 use Rattle.cjc_cmd_compat.proofs.comparing.gather_compat.Goals as goal

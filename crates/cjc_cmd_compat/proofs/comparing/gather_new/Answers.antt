@@ -1,6 +1,6 @@
 use Rattle.std.proofs.Common.{List, ℕ}
 use Rattle.std.proofs.lemmas.Result.{err_from_is_err_and}
-use Rattle.cjc_cmd_check.specs.Shelf.Command.Plan.{has, read}
+use Rattle.cjc_cmd_check.specs.LowerShelf.Command.Plan.{has, read}
 use Rattle.cjc_cmd_check.proofs.ShelfGathering.{gathers_then, gathers_end}
 use Rattle.cjc_cmd_check.proofs.ShelfJudging.{gathers_judged}
 use Rattle.cjc_cmd_compat.specs.Compat.{Compares}

@@ -1,7 +1,7 @@
 use Rattle.std.proofs.Common.{Err, List, ℕ, sym, subst}
-use Rattle.cjc_cmd_check.specs.Shelf.Command.Gather.{Judged}
-use Rattle.cjc_cmd_check.specs.Shelf.declared.command.status.Status.{Status}
-use Rattle.cjc_cmd_check.specs.Shelf.declared.command.status.Todo.{Todo}
+use Rattle.cjc_cmd_check.specs.LowerShelf.Command.Gather.{Judged}
+use Rattle.cjc_cmd_check.specs.LowerShelf.declared.command.status.Status.{Status}
+use Rattle.cjc_cmd_check.specs.LowerShelf.declared.command.status.Todo.{Todo}
 use Rattle.cjc_cmd_compat.specs.Compat.{Compares}
 use Rattle.cjc_cmd_compat.proofs.Tested.{judged_fault}
 use Rattle.cjc_cmd_compat.proofs.comparing.judge.Goals as goal

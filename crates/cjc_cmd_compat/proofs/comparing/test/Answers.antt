@@ -1,7 +1,7 @@
 use Rattle.std.proofs.Common.{◌≡◌, List, [], ℕ, sym, subst}
 use Rattle.std.proofs.lemmas.Result.{err_from_is_err_and}
 use Rattle.std.specs.Prelude.{IfErr, OnOk}
-use Rattle.cjc_tokens.specs.Bytes.Breaks.{Break, IsFirstRefusal}
+use Rattle.cjc_world.specs.Bytes.Breaks.{Break, IsFirstRefusal}
 use Rattle.cjc_cmd_compat.proofs.Tested.{both_read, new_broken, old_broken}
 use Rattle.cjc_cmd_compat.proofs.comparing.test.Goals as goal
 

@@ -1,16 +1,16 @@
 use Rattle.std.proofs.Common.{refl, codes}
 use Rattle.std.specs.Fmt.{digits as decimal_digits}
-use Rattle.cjc_cmd_convert.specs.Bytes.Format.{repeated, in_a_row, iterated, u1, u2, u4, raw}
-use Rattle.cjc_cmd_convert.specs.Bytes.Reading.{front, digits, read_file}
-use Rattle.cjc_cmd_convert.specs.Bytes.Found.{each, all_of}
-use Rattle.cjc_cmd_convert.specs.Bytes.Spots.{desc_of, parts_of, bad_at, after, types_from}
+use Rattle.cjc_cmd_card.specs.Bytes.Format.{repeated, in_a_row, iterated, u1, u2, u4, raw}
+use Rattle.cjc_cmd_card.specs.Bytes.Reading.{front, digits, read_file}
+use Rattle.cjc_cmd_card.specs.Bytes.Found.{each, all_of}
+use Rattle.cjc_cmd_card.specs.Bytes.Spots.{desc_of, parts_of, bad_at, after, types_from}
 use Rattle.cjc_cmd_convert.proofs.BytesLaws.{file_ok}
-use Rattle.cjc_cmd_convert.specs.ClassFile.Pool
-use Rattle.cjc_cmd_convert.specs.ClassFile.Items
-use Rattle.cjc_cmd_convert.specs.ClassFile.Members
-use Rattle.cjc_cmd_convert.specs.ClassFile.CodeAttribute
-use Rattle.cjc_cmd_convert.specs.ClassFile.Methods
-use Rattle.cjc_cmd_convert.specs.ClassFile.ClassFile as Reader
+use Rattle.cjc_cmd_card.specs.ClassFile.Pool
+use Rattle.cjc_cmd_card.specs.ClassFile.Items
+use Rattle.cjc_cmd_card.specs.ClassFile.Members
+use Rattle.cjc_cmd_card.specs.ClassFile.CodeAttribute
+use Rattle.cjc_cmd_card.specs.ClassFile.Methods
+use Rattle.cjc_cmd_card.specs.ClassFile.ClassFile as Reader
 use Rattle.cjc_cmd_make.specs.Package.ClassFile.{attribute_bytes, method_bytes, file_bytes}
 use Rattle.cjc_cmd_make.specs.Package.Classes.{class_with}
 use Rattle.cjc_cmd_make.specs.Laws.ClassTrees.{class_tree}

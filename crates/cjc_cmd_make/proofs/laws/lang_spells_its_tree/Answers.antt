@@ -1,14 +1,14 @@
 use Rattle.std.proofs.Common.{refl}
-use Rattle.cjc_cmd_convert.specs.Bytes.Format.{repeated, in_a_row, iterated, u1, u2, u4, raw}
-use Rattle.cjc_cmd_convert.specs.Bytes.Reading.{front, digits, read_file}
-use Rattle.cjc_cmd_convert.specs.Bytes.Found.{each, all_of}
-use Rattle.cjc_cmd_convert.specs.Bytes.Spots.{desc_of, parts_of, bad_at, after, types_from}
+use Rattle.cjc_cmd_card.specs.Bytes.Format.{repeated, in_a_row, iterated, u1, u2, u4, raw}
+use Rattle.cjc_cmd_card.specs.Bytes.Reading.{front, digits, read_file}
+use Rattle.cjc_cmd_card.specs.Bytes.Found.{each, all_of}
+use Rattle.cjc_cmd_card.specs.Bytes.Spots.{desc_of, parts_of, bad_at, after, types_from}
 use Rattle.cjc_cmd_convert.proofs.BytesLaws.{file_ok}
-use Rattle.cjc_cmd_convert.specs.ExportFile.Pool
-use Rattle.cjc_cmd_convert.specs.ExportFile.Package
-use Rattle.cjc_cmd_convert.specs.ExportFile.Members
-use Rattle.cjc_cmd_convert.specs.ExportFile.ExportFile
-use Rattle.cjc_cmd_convert.specs.ExportFile.Root
+use Rattle.cjc_cmd_card.specs.ExportFile.Pool
+use Rattle.cjc_cmd_card.specs.ExportFile.Package
+use Rattle.cjc_cmd_card.specs.ExportFile.Members
+use Rattle.cjc_cmd_card.specs.ExportFile.ExportFile
+use Rattle.cjc_cmd_card.specs.ExportFile.Root
 use Rattle.cjc_cmd_make.specs.Package.Lang.{lang_file}
 use Rattle.cjc_cmd_make.specs.Laws.LangTree.{lang_tree}
 use Rattle.cjc_cmd_make.proofs.laws.lang_spells_its_tree.Goals as goal

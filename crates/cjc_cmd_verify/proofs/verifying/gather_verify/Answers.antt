@@ -2,8 +2,8 @@ use Rattle.std.proofs.lemmas.Result.{err_from_is_err_and}
 use Rattle.cjc_cmd_card.specs.declared.running.input.Input.{Input}
 use Rattle.cjc_cmd_card.proofs.ShelfGathering.{gathers_then, gathers_end}
 use Rattle.cjc_cmd_card.proofs.ShelfJudging.{gathers_judged}
-use Rattle.cjc_cmd_card.specs.LowerShelf.Command.Plan.{has}
-use Rattle.cjc_cmd_verify.specs.Reads.{plan_of_input}
+use Rattle.cjc_cmd_card.specs.Shelf.Command.Plan.{has}
+use Rattle.cjc_cmd_card.specs.Running.Package.{plan_of_input}
 use Rattle.cjc_cmd_verify.specs.Verify.{Verifies}
 use Rattle.cjc_cmd_verify.proofs.verifying.gather_verify.Goals as goal
 

@@ -1,6 +1,7 @@
 use Rattle.std.proofs.lemmas.Result.{err_from_is_err_and}
 use Rattle.cjc_cmd_card.proofs.ReportLaws.Free.{no_initialiser_breaks, pair_first}
-use Rattle.cjc_cmd_verify.proofs.VerifyingLaws.Free.{early_fault, paired_by}
+use Rattle.cjc_cmd_card.proofs.ReportLaws.Free.{paired_by}
+use Rattle.cjc_cmd_verify.proofs.VerifyingLaws.Free.{early_fault}
 use Rattle.cjc_cmd_verify.specs.Working.{ready_of}
 use Rattle.cjc_cmd_verify.proofs.verifying.paired_image.Goals as goal
 

@@ -5,7 +5,7 @@ use Rattle.cjc_cmd_card.specs.Running.Ready.{tested}
 use Rattle.cjc_cmd_verify.proofs.VerifyingLaws.Free.{are_typed, types_fault}
 use Rattle.cjc_cmd_verify.proofs.VerifyingLaws.Spelt.{passed}
 use Rattle.cjc_cmd_verify.specs.Working.{ready_of}
-use Rattle.cjc_cmd_card.specs.Judge.Rules.{has_applets}
+use Rattle.cjc_verify_theorem.specs.Judge.Rules.{has_applets}
 use Rattle.cjc_cmd_verify.proofs.verifying.test_types.Goals as goal
 
 pub tokens_of-requires-clause-exported : goal.tokens_of-requires-clause-exported

@@ -1,8 +1,8 @@
 use Rattle.std.proofs.Common.{◌≡◌, List, Option, None, Some, true, refl, sym, ap, subst, ◌∙◌}
 use Rattle.std.specs.Prelude.{IfOk, option_map}
 use Rattle.std.specs.Borrow.{Bor}
-use Rattle.cjc_export.specs.LowerBytes.Breaks.{IsFirstOf}
-use Rattle.cjc_export.specs.LowerBytes.Told.{break_of}
+use Rattle.cjc_export.specs.Bytes.Breaks.{IsFirstOf}
+use Rattle.cjc_export.specs.Bytes.Told.{break_of}
 use Rattle.cjc_export.proofs.BytesFirsts.{at_same}
 use Rattle.cjc_compat.specs.Rules.{class_breaks, with_token}
 use Rattle.cjc_export.specs.declared.tree.ExportClass.{ExportClass}

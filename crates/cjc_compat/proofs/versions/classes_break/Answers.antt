@@ -1,7 +1,7 @@
 use Rattle.std.proofs.Common.{ℕ, ◌+◌, ◌<◌, ◌≤◌, List, length, get_or, ap, subst, ◌∙◌}
 use Rattle.std.specs.Prelude.{option_map}
-use Rattle.cjc_export.specs.LowerBytes.Breaks.{class_spot}
-use Rattle.cjc_export.specs.LowerBytes.Told.{break_of, file_place_of}
+use Rattle.cjc_export.specs.Bytes.Breaks.{class_spot}
+use Rattle.cjc_export.specs.Bytes.Told.{break_of, file_place_of}
 use Rattle.cjc_export.proofs.BytesFirsts.{each_all, each_more, each_none}
 use Rattle.cjc_compat.specs.Rules.{class_breaks, with_token}
 use Rattle.cjc_export.specs.declared.tree.ExportClass.{ExportClass}

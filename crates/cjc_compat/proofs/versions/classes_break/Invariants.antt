@@ -1,7 +1,7 @@
 use Rattle.std.proofs.Common.{take}
 use Rattle.std.specs.Prelude.{option_map}
-use Rattle.cjc_export.specs.LowerBytes.Breaks.{IsFirstOf, each}
-use Rattle.cjc_export.specs.LowerBytes.Told.{break_of, file_place_of}
+use Rattle.cjc_export.specs.Bytes.Breaks.{IsFirstOf, each}
+use Rattle.cjc_export.specs.Bytes.Told.{break_of, file_place_of}
 use Rattle.cjc_compat.specs.Rules.{class_breaks, with_token}
 use Rattle.cjc_compat.proofs.versions.classes_break.Given as goal
 

@@ -1,8 +1,8 @@
 use Rattle.std.proofs.Common.{◌≡◌, ℕ, take}
 use Rattle.std.specs.Prelude.{option_map}
-use Rattle.cjc_export.specs.LowerBytes.Breaks.{IsFirstOf, at, each}
-use Rattle.cjc_export.specs.LowerBytes.Order.{FilePlace}
-use Rattle.cjc_export.specs.LowerBytes.Told.{break_of, spot_of}
+use Rattle.cjc_export.specs.Bytes.Breaks.{IsFirstOf, at, each}
+use Rattle.cjc_export.specs.Bytes.Order.{FilePlace}
+use Rattle.cjc_export.specs.Bytes.Told.{break_of, spot_of}
 use Rattle.cjc_compat.specs.Rules.{at_class, at_field, is_lost_field}
 use Rattle.cjc_compat.proofs.versions.fields_break.Given as goal
 

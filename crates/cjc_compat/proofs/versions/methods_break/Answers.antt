@@ -1,7 +1,7 @@
 use Rattle.std.proofs.Common.{◌<◌, ◌≤◌, List, length, get_or, ap, subst, ◌∙◌}
 use Rattle.std.specs.Prelude.{option_map}
-use Rattle.cjc_export.specs.LowerBytes.Breaks.{at}
-use Rattle.cjc_export.specs.LowerBytes.Told.{break_of}
+use Rattle.cjc_export.specs.Bytes.Breaks.{at}
+use Rattle.cjc_export.specs.Bytes.Told.{break_of}
 use Rattle.cjc_export.proofs.BytesFirsts.{at_same, each_all, each_more, each_none}
 use Rattle.cjc_compat.specs.Rules.{at_method, is_lost_method}
 use Rattle.cjc_export.specs.declared.tree.ExportMethod.{ExportMethod}

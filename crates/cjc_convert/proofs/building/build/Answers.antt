@@ -1,7 +1,7 @@
 use Rattle.std.proofs.Common.{◌∙◌, ap, refl}
 use Rattle.std.proofs.lemmas.Result.{err_from_is_err_and}
-use Rattle.cjc_shape_proof.specs.NCode.PoolOrder.{pool_order}
-use Rattle.cjc_shape_proof.specs.Shape.Whole.Working.Shaped.{package_of}
+use Rattle.cjc_captree.specs.NCode.PoolOrder.{pool_order}
+use Rattle.cjc_shape_proof.specs.LowerShape.Whole.Working.Shaped.{package_of}
 use Rattle.cjc_convert.proofs.ConversionLaws.Shapes.{its_codes, its_pool, laid_out}
 use Rattle.cjc_convert.proofs.building.build.Goals as goal
 

@@ -1,8 +1,8 @@
 use Rattle.std.proofs.Common.{◌∙◌, ap, length, map, nat_lt, refl, subst, sym}
 use Rattle.std.proofs.lemmas.List.{length-map}
-use Rattle.cjc_captree.specs.Classes.Entries.{key_token}
-use Rattle.cjc_captree.specs.Methods.Ready.{AreOrdered}
-use Rattle.cjc_shape_proof.specs.Shape.Whole.Working.Shaped.{package_of}
+use Rattle.cjc_captree.specs.LowerClasses.Entries.{key_token}
+use Rattle.cjc_captree.specs.LowerMethods.Ready.{AreOrdered}
+use Rattle.cjc_shape_proof.specs.LowerShape.Whole.Working.Shaped.{package_of}
 use Rattle.cjc_convert.proofs.building.components_with.Goals as goal
 
 pub extents-requires-clause-laid : goal.extents-requires-clause-laid

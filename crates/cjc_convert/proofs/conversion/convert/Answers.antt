@@ -1,19 +1,19 @@
 use Rattle.std.proofs.Common.{◌≡◌, ◌<◌, ◌≤◌, ◌^◌, ◌∙◌, ap, arith, inl, length, subst, sym, List, ℕ, None}
 use Rattle.std.proofs.lemmas.List.Elements.{All-weaker}
 use Rattle.std.proofs.lemmas.Result.{err_from_is_err_and}
-use Rattle.cjc_captree.specs.CapRead.declared.tree.CapTree.{CapTree}
-use Rattle.cjc_shape_proof.specs.CapWrite.Files.{files_of, limit_of, part}
-use Rattle.cjc_shape_proof.specs.CapWrite.Method.{method_bytes}
-use Rattle.cjc_shape_proof.specs.CapWrite.Writable.{IsSpelt, IsWritable}
+use Rattle.cjc_shape_proof.specs.CapRead.declared.tree.CapTree.{CapTree}
+use Rattle.cjc_captree.specs.CapWrite.Files.{files_of, limit_of, part}
+use Rattle.cjc_captree.specs.CapWrite.Method.{method_bytes}
+use Rattle.cjc_captree.specs.CapWrite.Writable.{IsSpelt, IsWritable}
 use Rattle.cjc_convert.proofs.ConversionLaws.Judging.{breaks_nothing, moved}
 use Rattle.cjc_convert.proofs.ConversionLaws.Makes.{by_sizes, converted, only_memory}
 use Rattle.cjc_convert.proofs.ConversionLaws.Shapes.{laid_out}
 use Rattle.cjc_convert.proofs.ConversionLaws.Stops.{stopped_by_files}
 use Rattle.cjc_convert.specs.Conversion.{IsConverted}
 use Rattle.cjc_convert.specs.declared.conversion.Converted.{Converted}
-use Rattle.cjc_shape_proof.specs.ExportFile.Writable as exports
-use Rattle.cjc_shape_proof.specs.Judge.Spelt.{IsRead}
-use Rattle.cjc_shape_proof.specs.Shape.Whole.Working.Shaped.{Stopped, package_of}
+use Rattle.cjc_captree.specs.ExportFile.Writable as exports
+use Rattle.cjc_shape_proof.specs.LowerJudge.Spelt.{IsRead}
+use Rattle.cjc_shape_proof.specs.LowerShape.Whole.Working.Shaped.{Stopped, package_of}
 use Rattle.cjc_convert.proofs.conversion.convert.Goals as goal
 
 pub judge-requires-clause-files : goal.judge-requires-clause-files

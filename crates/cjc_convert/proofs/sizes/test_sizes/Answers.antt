@@ -1,4 +1,4 @@
-use Rattle.cjc_captree.specs.Components.Limits.{size_breaks}
+use Rattle.cjc_shape_proof.specs.Components.Limits.{size_breaks}
 use Rattle.cjc_convert.proofs.sizes.test_sizes.Goals as goal
 
 pub returns-clause-unbroken : goal.returns-clause-unbroken

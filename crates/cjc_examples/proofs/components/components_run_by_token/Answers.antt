@@ -17,12 +17,12 @@ use Rattle.cjc_world.specs.Interfaces.{gathered, known}
 use Rattle.cjc_world.specs.Lookup.{first, own_field, find_field, own_method, find_method, method_of_interface}
 use Rattle.cjc_world.specs.Added.{own_methods, methods_of, asked_by, has_open, lacking, added}
 use Rattle.cjc_world.specs.Order.{may_stand, next, lined_up, in_order, class_order, method_order}
-use Rattle.cjc_components.specs.Narrow.Pairs.Roles.{with_pairs}
-use Rattle.cjc_components.specs.Narrow.Rows.Resolved.{resolution}
+use Rattle.cjc_components.specs.LowerNarrow.Pairs.Roles.{with_pairs}
+use Rattle.cjc_components.specs.LowerNarrow.Rows.Resolved.{resolution}
 use Rattle.cjc_tokens.specs.Slots.{token, own, got, first_answer, taken_slots, token_among, shown_token}
 use Rattle.cjc_tokens.specs.Methods.{interfaces_at, interface_methods, class_method_token, class_method_tokens}
-use Rattle.cjc_components.specs.CheckRules.Spots.{placed}
-use Rattle.cjc_components.specs.CapRead.Opcodes.{forms, form, op_info}
+use Rattle.cjc_components.specs.LowerCheckRules.Spots.{placed}
+use Rattle.cjc_capwrite.specs.CapRead.Opcodes.{forms, form, op_info}
 use Rattle.cjc_world.specs.Exported.{is_exported}
 use Rattle.cjc_world.specs.Subtype.{is_subclass, is_subtype}
 use Rattle.cjc_tokens.specs.Fields.{instance_token, field_token, field_tokens, instance_tokens}
@@ -30,17 +30,17 @@ use Rattle.cjc_tokens.specs.Tokens.{classes_from as token_classes_from, assigned
 use Rattle.cjc_card_semantics.specs.Bytecode.Meanings.{meaning}
 use Rattle.cjc_capwrite.specs.Package.{header_bytes, import_bytes, imported_package_bytes, applet_bytes}
 use Rattle.cjc_capwrite.specs.Package.{applet_entry_bytes, directory_bytes}
-use Rattle.cjc_components.specs.Subset.Types.{is_int_desc, is_int_element}
+use Rattle.cjc_components.specs.LowerSubset.Types.{is_int_desc, is_int_element}
 use Rattle.cjc_capwrite.specs.Class.{interface_bytes, implemented_bytes, class_entry_bytes, class_info_bytes}
 use Rattle.cjc_capwrite.specs.Method.{handler_bytes, method_bytes}
 use Rattle.cjc_capwrite.specs.Statics.{reference_location_bytes, array_init_bytes, static_field_bytes}
-use Rattle.cjc_components.specs.CheckRules.Locations.{catch_places, distances}
+use Rattle.cjc_components.specs.LowerCheckRules.Locations.{catch_places, distances}
 use Rattle.cjc_capwrite.specs.Export.{exported_class_bytes, export_bytes}
 use Rattle.cjc_capwrite.specs.Descriptor.{field_bytes, code_bytes, method_descriptor_bytes, class_descriptor_bytes}
 use Rattle.cjc_capwrite.specs.Descriptor.{type_bytes, types_bytes, descriptor_bytes}
 use Rattle.cjc_capwrite.specs.Pool.{entry_bytes, pool_bytes}
-use Rattle.cjc_tokens.specs.ExportFile.Written.{value_name, class_tree_needs, needs}
-use Rattle.cjc_tokens.specs.ExportFile.Supers.{upwards_from}
+use Rattle.cjc_world.specs.ExportFile.Written.{value_name, class_tree_needs, needs}
+use Rattle.cjc_world.specs.ExportFile.Supers.{upwards_from}
 use Rattle.cjc_card_semantics.specs.Machine.ByToken.{by_token}
 use Rattle.cjc_examples.proofs.components.components_run_by_token.Goals as goal
 

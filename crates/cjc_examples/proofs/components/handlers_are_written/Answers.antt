@@ -17,17 +17,17 @@ use Rattle.cjc_world.specs.Interfaces.{gathered, known}
 use Rattle.cjc_world.specs.Lookup.{first, own_field, find_field, own_method, find_method}
 use Rattle.cjc_world.specs.Added.{own_methods, methods_of, asked_by, has_open, lacking, added}
 use Rattle.cjc_world.specs.Order.{may_stand, next, lined_up, in_order, class_order, method_order}
-use Rattle.cjc_components.specs.Narrow.Pairs.Roles.{with_pairs}
-use Rattle.cjc_components.specs.Narrow.Rows.Resolved.{resolution}
+use Rattle.cjc_components.specs.LowerNarrow.Pairs.Roles.{with_pairs}
+use Rattle.cjc_components.specs.LowerNarrow.Rows.Resolved.{resolution}
 use Rattle.cjc_tokens.specs.Slots.{token, own, got, first_answer, taken_slots, token_among, shown_token}
 use Rattle.cjc_tokens.specs.Methods.{interfaces_at, interface_methods}
-use Rattle.cjc_components.specs.CheckRules.Spots.{placed}
-use Rattle.cjc_components.specs.CapRead.Opcodes.{forms, form, op_info}
+use Rattle.cjc_components.specs.LowerCheckRules.Spots.{placed}
+use Rattle.cjc_capwrite.specs.CapRead.Opcodes.{forms, form, op_info}
 use Rattle.cjc_card_semantics.specs.Bytecode.Meanings.{meaning}
 use Rattle.cjc_capwrite.specs.Method.{handler_bytes, method_bytes}
 use Rattle.cjc_capwrite.specs.Pool.{entry_bytes, pool_bytes}
 use Rattle.cjc_capwrite.specs.Statics.{reference_location_bytes}
-use Rattle.cjc_components.specs.CheckRules.Locations.{catch_places, distances}
+use Rattle.cjc_components.specs.LowerCheckRules.Locations.{catch_places, distances}
 use Rattle.cjc_examples.proofs.components.handlers_are_written.Goals as goal
 
 pub returns-clause-method : goal.returns-clause-method

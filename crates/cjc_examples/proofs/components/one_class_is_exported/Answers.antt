@@ -17,21 +17,21 @@ use Rattle.cjc_world.specs.Interfaces.{gathered, known}
 use Rattle.cjc_world.specs.Lookup.{first, own_field, find_field, own_method, find_method, method_of_interface}
 use Rattle.cjc_world.specs.Added.{own_methods, methods_of, asked_by, has_open, lacking, added}
 use Rattle.cjc_world.specs.Order.{may_stand, next, lined_up, in_order, class_order, method_order}
-use Rattle.cjc_components.specs.Narrow.Pairs.Roles.{with_pairs}
-use Rattle.cjc_components.specs.Narrow.Rows.Resolved.{resolution}
+use Rattle.cjc_components.specs.LowerNarrow.Pairs.Roles.{with_pairs}
+use Rattle.cjc_components.specs.LowerNarrow.Rows.Resolved.{resolution}
 use Rattle.cjc_tokens.specs.Slots.{token, own, got, first_answer, taken_slots, token_among, shown_token}
 use Rattle.cjc_tokens.specs.Methods.{interfaces_at, interface_methods, class_method_token, class_method_tokens}
-use Rattle.cjc_components.specs.CheckRules.Spots.{placed}
-use Rattle.cjc_components.specs.CapRead.Opcodes.{forms, form}
+use Rattle.cjc_components.specs.LowerCheckRules.Spots.{placed}
+use Rattle.cjc_capwrite.specs.CapRead.Opcodes.{forms, form}
 use Rattle.cjc_world.specs.Exported.{is_exported}
 use Rattle.cjc_world.specs.Subtype.{is_subclass, is_subtype}
 use Rattle.cjc_tokens.specs.Fields.{instance_token, field_token, field_tokens, instance_tokens}
 use Rattle.cjc_tokens.specs.Tokens.{classes_from as token_classes_from, assigned}
-use Rattle.cjc_tokens.specs.ExportFile.Written.{value_name, class_tree_needs, needs, index_of}
-use Rattle.cjc_tokens.specs.ExportFile.Written.{field_bytes as export_field_bytes}
-use Rattle.cjc_tokens.specs.ExportFile.Written.{method_bytes as export_method_bytes, members_bytes, class_bytes}
-use Rattle.cjc_tokens.specs.ExportFile.Written.{package_bytes}
-use Rattle.cjc_tokens.specs.ExportFile.Written.{constant_bytes, head_bytes, bytes_over, written}
+use Rattle.cjc_world.specs.ExportFile.Written.{value_name, class_tree_needs, needs, index_of}
+use Rattle.cjc_world.specs.ExportFile.Written.{field_bytes as export_field_bytes}
+use Rattle.cjc_world.specs.ExportFile.Written.{method_bytes as export_method_bytes, members_bytes, class_bytes}
+use Rattle.cjc_world.specs.ExportFile.Written.{package_bytes}
+use Rattle.cjc_world.specs.ExportFile.Written.{constant_bytes, head_bytes, bytes_over, written}
 use Rattle.cjc_examples.proofs.components.one_class_is_exported.Goals as goal
 
 pub returns : goal.returns

@@ -17,12 +17,12 @@ use Rattle.cjc_world.specs.Interfaces.{gathered, known}
 use Rattle.cjc_world.specs.Lookup.{first, own_field, find_field, own_method, find_method, method_of_interface}
 use Rattle.cjc_world.specs.Added.{own_methods, methods_of, asked_by, has_open, lacking, added}
 use Rattle.cjc_world.specs.Order.{may_stand, next, lined_up, in_order, class_order, method_order}
-use Rattle.cjc_components.specs.Narrow.Pairs.Roles.{with_pairs}
-use Rattle.cjc_components.specs.Narrow.Rows.Resolved.{resolution}
+use Rattle.cjc_components.specs.LowerNarrow.Pairs.Roles.{with_pairs}
+use Rattle.cjc_components.specs.LowerNarrow.Rows.Resolved.{resolution}
 use Rattle.cjc_tokens.specs.Slots.{token, own, got, first_answer, taken_slots, token_among, shown_token}
 use Rattle.cjc_tokens.specs.Methods.{interfaces_at, interface_methods, class_method_token, class_method_tokens}
-use Rattle.cjc_components.specs.CheckRules.Spots.{placed}
-use Rattle.cjc_components.specs.CapRead.Opcodes.{forms, form, op_info}
+use Rattle.cjc_components.specs.LowerCheckRules.Spots.{placed}
+use Rattle.cjc_capwrite.specs.CapRead.Opcodes.{forms, form, op_info}
 use Rattle.cjc_capwrite.specs.Class.{interface_bytes, implemented_bytes, class_entry_bytes, class_info_bytes}
 use Rattle.cjc_world.specs.Exported.{is_exported}
 use Rattle.cjc_world.specs.Subtype.{is_subclass, is_subtype}
@@ -32,7 +32,7 @@ use Rattle.cjc_capwrite.specs.Pool.{entry_bytes, pool_bytes}
 use Rattle.cjc_card_semantics.specs.Bytecode.Meanings.{meaning}
 use Rattle.cjc_capwrite.specs.Method.{handler_bytes, method_bytes}
 use Rattle.cjc_capwrite.specs.Statics.{reference_location_bytes}
-use Rattle.cjc_components.specs.CheckRules.Locations.{catch_places, distances}
+use Rattle.cjc_components.specs.LowerCheckRules.Locations.{catch_places, distances}
 use Rattle.cjc_capwrite.specs.Package.{applet_bytes, applet_entry_bytes}
 use Rattle.cjc_examples.proofs.components.wallet_is_written.Goals as goal
 

@@ -1,5 +1,5 @@
 use Rattle.std.proofs.Common.{refl}
-use Rattle.cjc_code.specs.LowerRange.Rows.{least_bits}
+use Rattle.cjc_code.specs.Range.Rows.{least_bits}
 use Rattle.cjc_examples.proofs.intervals.bits_have_their_rows.Goals as goal
 
 pub returns-clause-conjunctions : goal.returns-clause-conjunctions

@@ -1,5 +1,5 @@
 use Rattle.std.proofs.Common.{refl}
-use Rattle.cjc_code.specs.LowerRange.Landmarks.{landmark_above, landmark_below}
+use Rattle.cjc_code.specs.Range.Landmarks.{landmark_above, landmark_below}
 use Rattle.cjc_examples.proofs.intervals.casts_and_joins_have_their_rows.Goals as goal
 
 pub returns-clause-bytes : goal.returns-clause-bytes

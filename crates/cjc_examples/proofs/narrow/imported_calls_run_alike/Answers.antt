@@ -16,16 +16,16 @@ use Rattle.cjc_world.specs.Supertypes.{supertypes_within, supertypes, line}
 use Rattle.cjc_world.specs.Interfaces.{gathered, known}
 use Rattle.cjc_world.specs.Lookup.{first, own_field, find_field, own_method, find_method, selected}
 use Rattle.cjc_world.specs.Subtype.{is_subclass, is_element, is_subtype}
-use Rattle.cjc_components.specs.CapRead.Opcodes.{forms, form}
-use Rattle.cjc_tokens.specs.ExportFile.Supers.{upwards_from}
-use Rattle.cjc_components.specs.JvmSemantics.Effects.{effect}
-use Rattle.cjc_components.specs.JvmSemantics.ByName.{linked}
+use Rattle.cjc_capwrite.specs.CapRead.Opcodes.{forms, form}
+use Rattle.cjc_world.specs.ExportFile.Supers.{upwards_from}
+use Rattle.cjc_components.specs.LowerJvmSemantics.Effects.{effect}
+use Rattle.cjc_components.specs.LowerJvmSemantics.ByName.{linked}
 use Rattle.cjc_card_semantics.specs.Bytecode.Meanings.{meaning}
 use Rattle.cjc_card_semantics.specs.Machine.ByToken.{by_token}
-use Rattle.cjc_components.specs.NCode.ByLabel.{by_label}
-use Rattle.cjc_components.specs.Narrow.Pairs.Roles.{with_pairs}
-use Rattle.cjc_components.specs.Narrow.Rows.Resolved.{resolution}
-use Rattle.cjc_components.specs.Narrow.Rows.Package
+use Rattle.cjc_components.specs.LowerNCode.ByLabel.{by_label}
+use Rattle.cjc_components.specs.LowerNarrow.Pairs.Roles.{with_pairs}
+use Rattle.cjc_components.specs.LowerNarrow.Rows.Resolved.{resolution}
+use Rattle.cjc_components.specs.LowerNarrow.Rows.Package
 use Rattle.cjc_examples.proofs.narrow.imported_calls_run_alike.Goals as goal
 
 pub returns-clause-waits : goal.returns-clause-waits

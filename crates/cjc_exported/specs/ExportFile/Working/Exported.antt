@@ -1,7 +1,7 @@
 -- Export by the offsets that code holds in rows: where classes, fields and methods stand.
 use Rattle.std.specs.Prelude.{ℕ, List, [], unwrap_or, option_map, slice_get}
-use Rattle.cjc_components.specs.CapRead.declared.tree.ClassRef.{ClassRef}
-use Rattle.cjc_components.specs.CapRead.declared.tree.ClassRef.TheVariants.{Inside, Outside}
+use Rattle.cjc_components.specs.LowerCapRead.declared.tree.ClassRef.{ClassRef}
+use Rattle.cjc_components.specs.LowerCapRead.declared.tree.ClassRef.TheVariants.{Inside, Outside}
 
 -- the offset of a class of the package
 abbrev pub offset_in : ClassRef → ℕ

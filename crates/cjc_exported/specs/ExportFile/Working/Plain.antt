@@ -1,6 +1,6 @@
 -- A package of which the list and the files alone count. The export file says nothing else of it.
 use Rattle.std.specs.Prelude.{[]}
-use Rattle.cjc_components.specs.List.Listed.{ListTree}
+use Rattle.cjc_components.specs.LowerList.Listed.{ListTree}
 use Rattle.cjc_world.specs.Files.{Files}
 use Rattle.cjc_components.specs.Package.{Package}
 

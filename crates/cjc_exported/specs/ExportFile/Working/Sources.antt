@@ -1,13 +1,13 @@
 -- What the code makes the export file from.
 use Rattle.std.specs.Prelude.{◌≡◌, ℕ, ◌+◌, List, [], ◌∷◌, ◌++◌, length, map, filter, nat_lt, Bool, true, false, not}
 use Rattle.std.specs.Prelude.{if◌then◌else◌, Some}
-use Rattle.cjc_world.specs.LowerBytes.declared.fault.MemberId.{MemberId}
-use Rattle.cjc_world.specs.LowerExportFile.declared.tree.ExportMethod.{ExportMethod}
+use Rattle.cjc_world.specs.Bytes.declared.fault.MemberId.{MemberId}
+use Rattle.cjc_world.specs.ExportFile.declared.tree.ExportMethod.{ExportMethod}
 use Rattle.cjc_world.specs.Classes.{Member, Class, all_classes, class_at}
 use Rattle.cjc_world.specs.Added.{added}
 use Rattle.cjc_world.specs.Lookup.{member_at}
 use Rattle.cjc_world.specs.Working.Known.{class_of}
-use Rattle.cjc_components.specs.Tokens.Tokens.{assigned}
+use Rattle.cjc_components.specs.LowerTokens.Tokens.{assigned}
 use Rattle.cjc_components.specs.Package.{Package, world}
 use Rattle.cjc_components.specs.Descriptor.{added_flags}
 use Rattle.cjc_components.specs.ExportFile.{method_entry, methods_from, added_from, inherited}

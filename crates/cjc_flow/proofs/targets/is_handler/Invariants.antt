@@ -1,6 +1,6 @@
 use Rattle.std.proofs.Common.{◌≡◌, drop}
 use Rattle.std.specs.List.{list_any}
-use Rattle.cjc_intervals.specs.ClassFile.declared.tree.Catch.{Catch}
+use Rattle.cjc_types.specs.ClassFile.declared.tree.Catch.{Catch}
 use Rattle.cjc_types.specs.Flow.{place_at}
 use Rattle.cjc_types.specs.Marks.{is_place}
 use Rattle.cjc_flow.proofs.targets.is_handler.Given as goal

@@ -1,15 +1,15 @@
 -- The lowest of the tested rules that an instruction breaks, and the first of a method.
 use Rattle.std.specs.Prelude.{ℕ, zero, suc, ◌+◌, ◌==◌, ◌&&◌, nat_le, Bool, if◌then◌else◌, List, [], ◌∷◌, length, Option}
 use Rattle.std.specs.Prelude.{Some, None, int_le}
-use Rattle.cjc_intervals.specs.Bytes.Descriptor.{Part}
-use Rattle.cjc_intervals.specs.Bytes.declared.fault.MemberId.{MemberId}
-use Rattle.cjc_intervals.specs.Bytes.declared.descriptor.Kind.{Kind}
-use Rattle.cjc_intervals.specs.Bytes.declared.descriptor.Kind.TheVariants as kinds
+use Rattle.cjc_fixpoint.specs.Bytes.Descriptor.{Part}
+use Rattle.cjc_fixpoint.specs.Bytes.declared.fault.MemberId.{MemberId}
+use Rattle.cjc_fixpoint.specs.Bytes.declared.descriptor.Kind.{Kind}
+use Rattle.cjc_fixpoint.specs.Bytes.declared.descriptor.Kind.TheVariants as kinds
 use Rattle.cjc_range.specs.Span.{Span, byte_range, short_range}
-use Rattle.cjc_types.specs.LowerBytecode.declared.insn.JInsn.{JInsn}
-use Rattle.cjc_types.specs.LowerBytecode.declared.insn.JOp.{JOp}
-use Rattle.cjc_types.specs.LowerBytecode.declared.insn.JOp.TheVariants as jop
-use Rattle.cjc_types.specs.LowerBytecode.Jvm as jvm
+use Rattle.cjc_types.specs.Bytecode.declared.insn.JInsn.{JInsn}
+use Rattle.cjc_types.specs.Bytecode.declared.insn.JOp.{JOp}
+use Rattle.cjc_types.specs.Bytecode.declared.insn.JOp.TheVariants as jop
+use Rattle.cjc_types.specs.Bytecode.Jvm as jvm
 use Rattle.cjc_types.specs.declared.cell.Cell.{Cell}
 use Rattle.cjc_types.specs.declared.state.State.{State}
 use Rattle.cjc_types.specs.Flow.{Body}

@@ -1,5 +1,5 @@
 use Rattle.std.proofs.Common.{ℕ, ◌+◌, ◌-◌, List, [], ◌∷◌, ◌++◌, sym, ap, ◌∙◌}
-use Rattle.cjc_world.specs.LowerClassFile.declared.tree.ClassTree.{ClassTree}
+use Rattle.cjc_world.specs.ClassFile.declared.tree.ClassTree.{ClassTree}
 use Rattle.cjc_group.specs.Implementing.{Declared, class_limit, upwards}
 use Rattle.cjc_group.proofs.Chains.{upwards_next, upwards_stops, upwards_ends}
 use Rattle.cjc_group.proofs.implementing.upwards.Goals as goal

@@ -4,7 +4,7 @@ use Rattle.cjc_bytes.specs.Breaks.{at, class_spot}
 use Rattle.cjc_bytes.specs.Order.{FilePlace}
 use Rattle.cjc_bytes.specs.Told.{break_of}
 use Rattle.cjc_bytes.proofs.Firsts.{at_same, each_all, each_more, each_none}
-use Rattle.cjc_world.specs.LowerClassFile.declared.tree.ClassTree.{ClassTree}
+use Rattle.cjc_world.specs.ClassFile.declared.tree.ClassTree.{ClassTree}
 use Rattle.cjc_world.specs.Files.{Files}
 use Rattle.cjc_group.specs.Implementing.{lacks_implementation}
 use Rattle.cjc_group.specs.Rules.{class_at, list_file}

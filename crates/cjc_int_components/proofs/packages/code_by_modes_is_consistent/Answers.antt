@@ -1,4 +1,4 @@
-use Rattle.cjc_check_proof.specs.Components.Names.{names}
+use Rattle.cjc_check_proof.specs.LowerComponents.Names.{names}
 use Rattle.cjc_int_components.proofs.packages.code_by_modes_is_consistent.Goals as goal
 
 pub returns-clause-whole : goal.returns-clause-whole

@@ -1,5 +1,5 @@
 use Rattle.std.proofs.Common.{refl}
-use Rattle.cjc_ncode.specs.CapRead.Opcodes.{form, forms}
+use Rattle.cjc_check_proof.specs.CapRead.Opcodes.{form, forms}
 use Rattle.cjc_int_components.proofs.worked.int_methods_are_emitted.Goals as goal
 
 pub returns-clause-compares : goal.returns-clause-compares

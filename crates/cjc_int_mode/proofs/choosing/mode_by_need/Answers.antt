@@ -1,7 +1,7 @@
 use Rattle.std.proofs.Common.{subst, Option}
-use Rattle.cjc_flow.specs.Bytes.declared.breaks.BrokenAt.{BrokenAt}
-use Rattle.cjc_flow.specs.Types.Flow.{body_of}
-use Rattle.cjc_flow.specs.Types.Tables.{rows_of}
+use Rattle.cjc_subset.specs.Bytes.declared.breaks.BrokenAt.{BrokenAt}
+use Rattle.cjc_flow.specs.LowerTypes.Flow.{body_of}
+use Rattle.cjc_flow.specs.LowerTypes.Tables.{rows_of}
 use Rattle.cjc_flow.specs.Tables.{ranges_of}
 use Rattle.cjc_flow.specs.declared.tests.passing.Tested.TheVariants as kinds
 use Rattle.cjc_flow.specs.Tests.Breaches.{IsFound, is_tested}

@@ -1,5 +1,5 @@
 use Rattle.std.proofs.Common.{◌≡◌, map, false}
-use Rattle.cjc_ncode.specs.Script.Sorts.{sort_of}
+use Rattle.cjc_ncode.specs.LowerScript.Sorts.{sort_of}
 use Rattle.cjc_int_mode.specs.Working.Scratch.{has_short_before}
 use Rattle.cjc_int_mode.proofs.descriptors.has_short_before.Given as goal
 

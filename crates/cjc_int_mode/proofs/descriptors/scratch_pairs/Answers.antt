@@ -1,6 +1,6 @@
 use Rattle.std.proofs.Common.{ℕ, Bool, cond, false, map, ap, ◌∙◌}
 use Rattle.std.specs.Prelude.{◌&&◌}
-use Rattle.cjc_ncode.specs.Script.Sorts.{sort_of}
+use Rattle.cjc_ncode.specs.LowerScript.Sorts.{sort_of}
 use Rattle.cjc_int_mode.specs.Working.Scratch.{has_short_before}
 use Rattle.cjc_int_mode.proofs.Words.{pairs_are}
 use Rattle.cjc_int_mode.proofs.descriptors.scratch_pairs.Goals as goal

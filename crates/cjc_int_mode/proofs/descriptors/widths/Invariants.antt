@@ -1,6 +1,6 @@
 use Rattle.std.proofs.Common.{◌≡◌, ◌+◌, ◌<◌, ◌≤◌, ◌*◌, ◌^◌, map, length}
-use Rattle.cjc_ncode.specs.Script.Sorts.{sort_of}
-use Rattle.cjc_ncode.specs.CardSemantics.Bytecode.Arguments.{widths}
+use Rattle.cjc_ncode.specs.LowerScript.Sorts.{sort_of}
+use Rattle.cjc_ncode.specs.LowerCardSemantics.Bytecode.Arguments.{widths}
 use Rattle.cjc_int_mode.proofs.descriptors.widths.Given as goal
 
 abbrev pub invariant-loop-kind : goal.invariant-loop-kind

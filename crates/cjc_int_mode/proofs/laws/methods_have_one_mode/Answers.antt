@@ -1,7 +1,7 @@
 use Rattle.std.proofs.Common.{◌≡◌, Bool, List, Option, refl}
-use Rattle.cjc_flow.specs.Types.declared.state.State.{State}
-use Rattle.cjc_flow.specs.Types.Flow.{Body}
-use Rattle.cjc_flow.specs.Intervals.Frames.{RangeState}
+use Rattle.cjc_flow.specs.LowerTypes.declared.state.State.{State}
+use Rattle.cjc_flow.specs.LowerTypes.Flow.{Body}
+use Rattle.cjc_flow.specs.LowerIntervals.Frames.{RangeState}
 use Rattle.cjc_int_mode.specs.declared.modes.Mode.{Mode}
 use Rattle.cjc_int_mode.specs.declared.modes.Mode.TheVariants as modes
 use Rattle.cjc_int_mode.specs.Modes.{IsModeOf}

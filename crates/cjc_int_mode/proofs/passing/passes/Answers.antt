@@ -1,6 +1,6 @@
 use Rattle.std.proofs.lemmas.Result.{IfOk-weaker}
-use Rattle.cjc_flow.specs.Types.Flow.{body_of}
-use Rattle.cjc_flow.specs.Types.Tables.{rows_of}
+use Rattle.cjc_flow.specs.LowerTypes.Flow.{body_of}
+use Rattle.cjc_flow.specs.LowerTypes.Tables.{rows_of}
 use Rattle.cjc_flow.specs.Tables.{ranges_of}
 use Rattle.cjc_flow.specs.Tests.Breaches.{is_tested}
 use Rattle.cjc_int_mode.specs.Modes.{binds}

@@ -1,5 +1,5 @@
 use Rattle.std.proofs.Common.{◌≡◌, ◌+◌, ◌*◌, ◌<◌, ◌≤◌, leb, Some, refl, sym, ap, ◌∙◌, arith}
-use Rattle.cjc_flow.specs.Types.Tables.{rows_of}
+use Rattle.cjc_flow.specs.LowerTypes.Tables.{rows_of}
 use Rattle.cjc_int_mode.proofs.Places.{too_high, not_usable, room_or_not}
 use Rattle.cjc_int_mode.proofs.space.has_int_room.Goals as goal
 

@@ -1,5 +1,5 @@
 use Rattle.std.proofs.Common.{sym, subst, true, IfOk}
-use Rattle.cjc_flow.specs.Types.Tables.{rows_of}
+use Rattle.cjc_flow.specs.LowerTypes.Tables.{rows_of}
 use Rattle.cjc_int_mode.specs.declared.modes.Mode.{Mode}
 use Rattle.cjc_int_mode.specs.Room.{IsRoom}
 use Rattle.cjc_int_mode.proofs.Places.{too_many, short_room}

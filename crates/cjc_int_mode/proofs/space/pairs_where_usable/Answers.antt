@@ -1,9 +1,9 @@
 use Rattle.std.proofs.Common.{◌≡◌, ◌+◌, List, slice_get, get_or, Some, option_map, sym, ap, ◌∙◌, subst}
 use Rattle.std.proofs.lemmas.Option.{slice_get-get_or}
-use Rattle.cjc_flow.specs.Fixpoint.Walks.{Walking}
-use Rattle.cjc_subset.specs.Bytecode.declared.insn.JInsn.{JInsn}
-use Rattle.cjc_flow.specs.Types.declared.state.State.{State}
-use Rattle.cjc_flow.specs.Types.Tables.{rows_of, state_of}
+use Rattle.cjc_flow.specs.LowerFixpoint.Walks.{Walking}
+use Rattle.cjc_flow.specs.Bytecode.declared.insn.JInsn.{JInsn}
+use Rattle.cjc_flow.specs.LowerTypes.declared.state.State.{State}
+use Rattle.cjc_flow.specs.LowerTypes.Tables.{rows_of, state_of}
 use Rattle.cjc_int_mode.specs.Working.Pairs.{pairs_from}
 use Rattle.cjc_int_mode.proofs.Places.{counted_on, none_counted}
 use Rattle.cjc_int_mode.proofs.space.pairs_where_usable.Goals as goal

@@ -1,5 +1,5 @@
 use Rattle.std.proofs.Common.{◌≡◌, drop}
-use Rattle.cjc_flow.specs.Types.Tables.{rows_of}
+use Rattle.cjc_flow.specs.LowerTypes.Tables.{rows_of}
 use Rattle.cjc_int_mode.specs.Working.Pairs.{pairs_from}
 use Rattle.cjc_int_mode.proofs.space.pairs_where_usable.Given as goal
 

@@ -1,7 +1,7 @@
 use Rattle.std.proofs.Common.{sym, ap, ◌∙◌, subst, IfOk}
-use Rattle.cjc_subset.specs.World.Classes.{all_classes}
-use Rattle.cjc_flow.specs.Types.Flow.{Body}
-use Rattle.cjc_flow.specs.Types.Tables.{IsTypeTable, rows_of}
+use Rattle.cjc_flow.specs.World.Classes.{all_classes}
+use Rattle.cjc_flow.specs.LowerTypes.Flow.{Body}
+use Rattle.cjc_flow.specs.LowerTypes.Tables.{IsTypeTable, rows_of}
 use Rattle.cjc_int_mode.specs.Room.{IsRoom}
 use Rattle.cjc_int_mode.proofs.space.room.Goals as goal
 

@@ -1,6 +1,6 @@
 use Rattle.std.proofs.Common.{◌≡◌, map}
 use Rattle.std.specs.List.{list_any}
-use Rattle.cjc_ncode.specs.Script.Sorts.{sort_of}
+use Rattle.cjc_int_mode.specs.Script.Sorts.{sort_of}
 use Rattle.cjc_ncode.specs.IntCode.IntCode.{is_short}
 use Rattle.cjc_int_narrow.proofs.calls.has_short.Given as goal
 

@@ -1,8 +1,8 @@
 use Rattle.std.proofs.Common.{◌≡◌, ℕ, ◌+◌, ◌-◌, ◌*◌, ◌<◌, List, length, map, get_or, sym, ap, ◌∙◌, arith}
 use Rattle.cjc_ncode.proofs.BytesLists.{length_mapped}
-use Rattle.cjc_ncode.specs.Bytes.Descriptor.{part_at}
-use Rattle.cjc_ncode.specs.Bytes.declared.descriptor.Kind.{Kind}
-use Rattle.cjc_ncode.specs.Script.Sorts.{NoValue, sort_by, sort_of}
+use Rattle.cjc_int_mode.specs.Bytes.Descriptor.{part_at}
+use Rattle.cjc_int_mode.specs.Bytes.declared.descriptor.Kind.{Kind}
+use Rattle.cjc_int_mode.specs.Script.Sorts.{NoValue, sort_by, sort_of}
 use Rattle.cjc_ncode.specs.IntCode.IntCode.{is_reference, stores}
 use Rattle.cjc_int_narrow.specs.declared.kinds.Kept.{Kept}
 use Rattle.cjc_int_narrow.proofs.Moves.{aside_next, param_at}

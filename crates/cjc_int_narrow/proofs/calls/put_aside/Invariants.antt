@@ -1,5 +1,5 @@
 use Rattle.std.proofs.Common.{◌≡◌, ◌+◌, ◌-◌, ◌*◌, ◌++◌, map, length, drop}
-use Rattle.cjc_ncode.specs.Script.Sorts.{sort_of}
+use Rattle.cjc_int_mode.specs.Script.Sorts.{sort_of}
 use Rattle.cjc_int_narrow.specs.Working.Moves.{aside_all}
 use Rattle.cjc_int_narrow.proofs.calls.put_aside.Given as goal
 

@@ -1,5 +1,5 @@
 use Rattle.std.proofs.Common.{◌≡◌, ◌+◌, ◌≤◌, ◌*◌, ◌++◌, map, length}
-use Rattle.cjc_ncode.specs.Script.Sorts.{sort_of}
+use Rattle.cjc_int_mode.specs.Script.Sorts.{sort_of}
 use Rattle.cjc_int_narrow.specs.Working.Moves.{back_all}
 use Rattle.cjc_int_narrow.proofs.calls.put_back.Given as goal
 

@@ -2,7 +2,7 @@ use Rattle.std.proofs.Common.{◌≡◌, ◌++◌, Bool, true, map, sym, ap, ◌
 use Rattle.std.specs.Prelude.{if◌then◌else◌}
 use Rattle.std.specs.List.{list_any}
 use Rattle.std.proofs.lemmas.Result.{on_ok_weaker}
-use Rattle.cjc_ncode.specs.Script.Sorts.{sort_of}
+use Rattle.cjc_int_mode.specs.Script.Sorts.{sort_of}
 use Rattle.cjc_ncode.specs.IntCode.IntCode.{is_by_scratch, is_short}
 use Rattle.cjc_int_mode.proofs.Words.{by_scratch}
 use Rattle.cjc_int_narrow.specs.Working.Moves.{aside_all, back_all, narrowed_if}

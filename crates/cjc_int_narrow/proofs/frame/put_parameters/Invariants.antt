@@ -1,6 +1,6 @@
 use Rattle.std.proofs.Common.{◌≡◌, ◌+◌, ◌≤◌, ◌*◌, ◌++◌, map, length}
-use Rattle.cjc_ncode.specs.Script.Sorts.{sort_of}
-use Rattle.cjc_ncode.specs.CardSemantics.Bytecode.Arguments.{widths}
+use Rattle.cjc_int_mode.specs.Script.Sorts.{sort_of}
+use Rattle.cjc_int_mode.specs.CardSemantics.Bytecode.Arguments.{widths}
 use Rattle.cjc_int_narrow.specs.Working.Moves.{moved_all}
 use Rattle.cjc_int_narrow.proofs.frame.put_parameters.Given as goal
 

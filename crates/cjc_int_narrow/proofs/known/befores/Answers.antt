@@ -1,13 +1,13 @@
 use Rattle.std.proofs.Common.{◌≡◌, List, Option, map, sym, ap, ◌∙◌, subst, IfOk}
 use Rattle.std.specs.Prelude.{option_map}
-use Rattle.cjc_ncode.specs.Bytecode.declared.insn.JInsn.{JInsn}
+use Rattle.cjc_int_mode.specs.Bytecode.declared.insn.JInsn.{JInsn}
 use Rattle.cjc_ncode.specs.IntCode.IntCode.{Before as TableRow}
-use Rattle.cjc_int_mode.specs.LowerFlow.Constants.{values_of}
-use Rattle.cjc_int_mode.specs.LowerFlow.Tables.{ranges_of}
-use Rattle.cjc_narrow.specs.World.Classes.{all_classes}
-use Rattle.cjc_int_proof.specs.Types.declared.state.State.{State}
-use Rattle.cjc_int_proof.specs.Types.Flow.{Body, body_of}
-use Rattle.cjc_int_proof.specs.Types.Tables.{IsTypeTable, rows_of}
+use Rattle.cjc_int_mode.specs.Flow.Constants.{values_of}
+use Rattle.cjc_int_mode.specs.Flow.Tables.{ranges_of}
+use Rattle.cjc_int_mode.specs.World.Classes.{all_classes}
+use Rattle.cjc_narrow.specs.Types.declared.state.State.{State}
+use Rattle.cjc_narrow.specs.Types.Flow.{Body, body_of}
+use Rattle.cjc_narrow.specs.Types.Tables.{IsTypeTable, rows_of}
 use Rattle.cjc_int_narrow.specs.declared.known.Before.{Before}
 use Rattle.cjc_int_narrow.specs.Reached.{known}
 use Rattle.cjc_int_narrow.specs.Select.{rows_before}

@@ -1,9 +1,9 @@
 use Rattle.std.proofs.Common.{◌≡◌, ◌+◌, List, slice_get, get_or, Option, Some, option_map, ap, ◌∙◌, subst}
 use Rattle.std.proofs.lemmas.Option.{slice_get-get_or}
-use Rattle.cjc_narrow.specs.Fixpoint.Walks.{Walking}
-use Rattle.cjc_int_proof.specs.Types.declared.state.State.{State}
-use Rattle.cjc_int_proof.specs.Types.Tables.{rows_of, state_of}
-use Rattle.cjc_int_mode.specs.LowerIntervals.Frames.{RangeState}
+use Rattle.cjc_int_mode.specs.Fixpoint.Walks.{Walking}
+use Rattle.cjc_narrow.specs.Types.declared.state.State.{State}
+use Rattle.cjc_narrow.specs.Types.Tables.{rows_of, state_of}
+use Rattle.cjc_int_mode.specs.Intervals.Frames.{RangeState}
 use Rattle.cjc_int_narrow.specs.Reached.{known}
 use Rattle.cjc_int_narrow.specs.Select.{rows_before}
 use Rattle.cjc_int_narrow.proofs.Tables.{rows_next, rows_end}

@@ -1,6 +1,6 @@
 use Rattle.std.proofs.Common.{◌≡◌, ◌++◌, drop, map}
 use Rattle.std.specs.Prelude.{option_map}
-use Rattle.cjc_int_proof.specs.Types.Tables.{rows_of}
+use Rattle.cjc_narrow.specs.Types.Tables.{rows_of}
 use Rattle.cjc_int_narrow.specs.Reached.{known}
 use Rattle.cjc_int_narrow.specs.Select.{rows_before}
 use Rattle.cjc_int_narrow.proofs.known.rows_before.Given as goal

@@ -1,9 +1,9 @@
 use Rattle.std.proofs.Common.{◌≡◌, ◌≤◌, List, ℕ, refl, sym, ap, ◌∙◌, subst, arith}
-use Rattle.cjc_ncode.specs.ClassFile.Code.{CodeTree}
+use Rattle.cjc_int_mode.specs.ClassFile.Code.{CodeTree}
 use Rattle.cjc_ncode.specs.IntCode.IntCode.{Frame, int_method, nargs}
 use Rattle.cjc_narrow.specs.Rows.Resolved.{resolution}
 use Rattle.cjc_narrow.specs.Rows.Selected.{near_fields}
-use Rattle.cjc_int_proof.specs.Types.Flow.{body_of}
+use Rattle.cjc_narrow.specs.Types.Flow.{body_of}
 use Rattle.cjc_int_mode.specs.Room.{many_arguments}
 use Rattle.cjc_int_mode.specs.Written.{argument_words, int_frame}
 use Rattle.cjc_int_narrow.specs.Reached.{places_by, reached_by}

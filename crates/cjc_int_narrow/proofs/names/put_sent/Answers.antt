@@ -1,7 +1,7 @@
 use Rattle.std.proofs.Common.{ap, ◌∙◌}
 use Rattle.std.proofs.lemmas.Result.{on_ok_weaker}
-use Rattle.cjc_ncode.specs.Bytes.declared.descriptor.Kind.{Kind}
-use Rattle.cjc_ncode.specs.Script.Sorts.{sort_by}
+use Rattle.cjc_int_mode.specs.Bytes.declared.descriptor.Kind.{Kind}
+use Rattle.cjc_int_mode.specs.Script.Sorts.{sort_by}
 use Rattle.cjc_ncode.specs.IntCode.IntCode.{is_short}
 use Rattle.cjc_narrow.specs.Select.Working.Names.{resolution_of}
 use Rattle.cjc_int_narrow.proofs.Puts.{sent}

@@ -1,6 +1,6 @@
 use Rattle.std.proofs.Common.{◌++◌, ◌∷◌, [], sym, ap, ◌∙◌, append_assoc}
 use Rattle.std.proofs.lemmas.Result.{on_ok_weaker}
-use Rattle.cjc_ncode.specs.CapRead.Card as card
+use Rattle.cjc_int_mode.specs.CapRead.Card as card
 use Rattle.cjc_ncode.specs.declared.narrow.NInsn.TheVariants.{Op}
 use Rattle.cjc_ncode.specs.Written.{written as written_short}
 use Rattle.cjc_narrow.specs.Written.Labels.{place_of}

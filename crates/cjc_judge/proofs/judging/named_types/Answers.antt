@@ -3,8 +3,8 @@ use Rattle.std.specs.Prelude.{option_map}
 use Rattle.std.proofs.lemmas.Result.{err_from_is_err_and}
 use Rattle.cjc_bytes.specs.Told.{break_of}
 use Rattle.cjc_bytes.proofs.BrokenRules.{break_kept}
-use Rattle.cjc_vtable.specs.Bytecode.declared.method_code.MethodCode.{MethodCode}
-use Rattle.cjc_flow.specs.Types.Tables.{IsOfPackage}
+use Rattle.cjc_clinit.specs.Bytecode.declared.method_code.MethodCode.{MethodCode}
+use Rattle.cjc_narrow.specs.Types.Tables.{IsOfPackage}
 use Rattle.cjc_judge.specs.Rules.{BreaksAnyType, IsFirstIn}
 use Rattle.cjc_judge.specs.Types.{AreTables}
 use Rattle.cjc_judge.proofs.Early.{no_tables, no_types, types_fault}

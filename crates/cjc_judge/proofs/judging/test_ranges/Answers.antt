@@ -2,9 +2,9 @@ use Rattle.std.proofs.Common.{List, All, sym, subst, ◌∙◌}
 use Rattle.std.specs.Prelude.{option_map}
 use Rattle.cjc_bytes.specs.Told.{break_of}
 use Rattle.cjc_bytes.proofs.Options.{on_ok}
-use Rattle.cjc_vtable.specs.Bytecode.declared.method_code.MethodCode.{MethodCode}
-use Rattle.cjc_flow.specs.Types.Tables.{IsOfPackage}
-use Rattle.cjc_flow.specs.Types.declared.table.TypeTable.{TypeTable}
+use Rattle.cjc_clinit.specs.Bytecode.declared.method_code.MethodCode.{MethodCode}
+use Rattle.cjc_narrow.specs.Types.Tables.{IsOfPackage}
+use Rattle.cjc_narrow.specs.Types.declared.table.TypeTable.{TypeTable}
 use Rattle.cjc_judge.specs.Rules.{BreaksAnyRange, IsFirstIn}
 use Rattle.cjc_judge.specs.Types.{AreTables}
 use Rattle.cjc_judge.proofs.Early.{no_ranges, ranges_fault, types_too}

@@ -2,10 +2,10 @@ use Rattle.std.proofs.Common.{◌≡◌, ◌∙◌, ap, sym, subst, length, List
 use Rattle.std.specs.Prelude.{nat_lt}
 use Rattle.std.proofs.lemmas.Option.{get_or_from_slice_get}
 use Rattle.cjc_bytes.specs.declared.settings.FileLine.{FileLine}
-use Rattle.cjc_vtable.specs.ClassFile.declared.tree.ClassTree.{ClassTree}
+use Rattle.cjc_world.specs.ClassFile.declared.tree.ClassTree.{ClassTree}
 use Rattle.cjc_bytes.specs.Breaks.{IsFirst}
 use Rattle.cjc_bytes.specs.Told.{file_place_of, spot_of}
-use Rattle.cjc_vtable.specs.Tokens.Rules.{IsFirstHigh, at_class, tested_breaks}
+use Rattle.cjc_vtable.specs.LowerTokens.Rules.{IsFirstHigh, at_class, tested_breaks}
 use Rattle.cjc_bytes.specs.Order.{file_of}
 use Rattle.cjc_judge.proofs.Firsts.{high_at}
 use Rattle.cjc_judge.proofs.judging.tokens_break.Goals as goal

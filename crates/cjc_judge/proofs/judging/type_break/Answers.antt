@@ -1,6 +1,6 @@
 use Rattle.cjc_bytes.specs.declared.breaks.BrokenAt.{BrokenAt}
 use Rattle.cjc_bytes.specs.Told.{break_of}
-use Rattle.cjc_flow.specs.Types.Flow.{body_of}
+use Rattle.cjc_narrow.specs.Types.Flow.{body_of}
 use Rattle.cjc_judge.specs.Rules.{HasWrongTypes}
 use Rattle.cjc_judge.proofs.Typed.{unbroken_method, broken_method, inferred_none, answered_alone, broken_this}
 use Rattle.cjc_judge.proofs.judging.type_break.Goals as goal

@@ -1,9 +1,9 @@
 use Rattle.std.proofs.Common.{sym, subst}
 use Rattle.std.specs.Prelude.{option_map}
-use Rattle.cjc_vtable.specs.Bytecode.declared.method_code.MethodCode.{MethodCode}
+use Rattle.cjc_clinit.specs.Bytecode.declared.method_code.MethodCode.{MethodCode}
 use Rattle.cjc_bytes.specs.Told.{break_of}
 use Rattle.cjc_bytes.proofs.Options.{mapped_2}
-use Rattle.cjc_flow.specs.Types.Tables.{IsOfPackage}
+use Rattle.cjc_narrow.specs.Types.Tables.{IsOfPackage}
 use Rattle.cjc_judge.specs.Rules.{BreaksType}
 use Rattle.cjc_judge.proofs.Folds.{none_below, more_below, all_below}
 use Rattle.cjc_judge.proofs.Tables.{joined, more_tables, all_tables}

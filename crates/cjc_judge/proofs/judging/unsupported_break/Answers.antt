@@ -3,7 +3,7 @@ use Rattle.std.specs.Prelude.{Some, slice_get}
 use Rattle.std.proofs.lemmas.Option.{slice_get_read}
 use Rattle.cjc_bytes.specs.declared.settings.FileLine.{FileLine}
 use Rattle.cjc_bytes.specs.Told.{file_place_of, spot_of}
-use Rattle.cjc_vtable.specs.Subset.Places.{at_method}
+use Rattle.cjc_clinit.specs.Subset.Places.{at_method}
 use Rattle.cjc_bytes.specs.Breaks.{RulePlace, IsFirstOf, broken_at}
 use Rattle.cjc_bytes.specs.Order.{FilePlace, file_of}
 use Rattle.cjc_vtable.proofs.SubsetCodes.{code_there}

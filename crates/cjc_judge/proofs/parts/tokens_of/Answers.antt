@@ -1,7 +1,7 @@
 use Rattle.std.proofs.Common.{ap, ◌∙◌}
 use Rattle.std.specs.Prelude.{length, nat_lt}
 use Rattle.cjc_judge.proofs.Unbroken.{none_refused}
-use Rattle.cjc_vtable.specs.Tokens.Rules.{token_breaks}
+use Rattle.cjc_vtable.specs.LowerTokens.Rules.{token_breaks}
 use Rattle.cjc_judge.proofs.parts.tokens_of.Goals as goal
 
 pub assign-requires-clause-exported : goal.assign-requires-clause-exported

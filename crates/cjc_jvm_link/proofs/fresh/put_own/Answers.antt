@@ -1,6 +1,6 @@
 use Rattle.std.proofs.Common.{◌≡◌, ◌<◌, ◌++◌, ◌∷◌, [], ◌∙◌, ap, subst, get_or, length}
 use Rattle.std.specs.Prelude.{if◌then◌else◌}
-use Rattle.cjc_jvm_semantics.specs.Bytes.AccessFlags.{is_static}
+use Rattle.cjc_world.specs.Bytes.AccessFlags.{is_static}
 use Rattle.cjc_jvm_semantics.specs.Effects.{fresh_field}
 use Rattle.cjc_jvm_link.proofs.Fields.{named, fresh_of, more_fresh}
 use Rattle.cjc_jvm_link.proofs.Walks.{walk_step}

@@ -1,5 +1,5 @@
 use Rattle.std.proofs.Common.{◌≡◌, take, drop, map}
-use Rattle.cjc_jvm_semantics.specs.Bytecode.PackageCodes.{of_classes, code_with}
+use Rattle.cjc_jvm_step.specs.Bytecode.PackageCodes.{of_classes, code_with}
 use Rattle.cjc_jvm_link.specs.Methods.{AreIndices, methods_of}
 use Rattle.cjc_jvm_link.proofs.methods.all_methods.Given as goal
 

@@ -1,5 +1,5 @@
 use Rattle.std.proofs.Common.{◌≡◌, ◌+◌, ◌++◌, take, drop, map}
-use Rattle.cjc_jvm_semantics.specs.Bytecode.PackageCodes.{of_methods, of_classes, code_with}
+use Rattle.cjc_jvm_step.specs.Bytecode.PackageCodes.{of_methods, of_classes, code_with}
 use Rattle.cjc_jvm_semantics.specs.OnePackage.{method_by}
 use Rattle.cjc_jvm_link.specs.Methods.{AreIndices}
 use Rattle.cjc_jvm_link.proofs.methods.methods_in.Given as goal

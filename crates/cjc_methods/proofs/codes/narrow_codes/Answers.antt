@@ -1,7 +1,7 @@
 use Rattle.std.proofs.Common.{ap, ◌∙◌}
 use Rattle.std.specs.Prelude.{map}
-use Rattle.cjc_components.specs.NCode.PoolOrder.{pool_order}
-use Rattle.cjc_components.specs.Narrow.Rows.Selected.{near_fields}
+use Rattle.cjc_pool.specs.NCode.PoolOrder.{pool_order}
+use Rattle.cjc_narrow.specs.Rows.Selected.{near_fields}
 use Rattle.cjc_components.specs.Written.{code_at}
 use Rattle.cjc_methods.proofs.Again.{by_own_pool}
 use Rattle.cjc_bytes.proofs.Options.{if_more}

@@ -1,6 +1,6 @@
 use Rattle.std.proofs.Common.{◌≡◌, ◌<◌, ◌-◌, sym, ap, subst, ◌∙◌, List, length}
 use Rattle.std.proofs.lemmas.Option.{slice_get_within}
-use Rattle.cjc_components.specs.ClassFile.declared.tree.ClassTree.{ClassTree}
+use Rattle.cjc_world.specs.ClassFile.declared.tree.ClassTree.{ClassTree}
 use Rattle.cjc_world.specs.Classes.{Member, all_classes, method_of_class}
 use Rattle.cjc_components.specs.Descriptor.{method_in}
 use Rattle.cjc_methods.proofs.Own.{added_read, like_on, method_read, no_method_read, place_is, tree_at}

@@ -1,6 +1,6 @@
 use Rattle.std.proofs.Common.{◌≡◌, ◌<◌, sym, subst, ◌∙◌, length, List}
 use Rattle.std.proofs.lemmas.Option.{slice_get_within}
-use Rattle.cjc_components.specs.ClassFile.declared.tree.ClassTree.{ClassTree}
+use Rattle.cjc_world.specs.ClassFile.declared.tree.ClassTree.{ClassTree}
 use Rattle.cjc_methods.proofs.Members.{put_all}
 use Rattle.cjc_components.proofs.VTableNumbers.{at-tree}
 use Rattle.cjc_bytes.proofs.Gets.{at_is}

@@ -1,4 +1,4 @@
-use Rattle.cjc_components.specs.LowerLowerTypes.Tables.{rows_of}
+use Rattle.cjc_narrow.specs.Types.Tables.{rows_of}
 use Rattle.cjc_methods.proofs.Reach.{reach_next, walk_next}
 use Rattle.cjc_methods.proofs.reached.rows_reached.Goals as goal
 

@@ -1,6 +1,6 @@
 use Rattle.std.proofs.Common.{◌≡◌, ◌-◌, ◌++◌, drop, length}
-use Rattle.cjc_components.specs.LowerLowerTypes.Tables.{rows_of}
-use Rattle.cjc_components.specs.Narrow.Written.Rows.{has_rows}
+use Rattle.cjc_narrow.specs.Types.Tables.{rows_of}
+use Rattle.cjc_narrow.specs.Written.Rows.{has_rows}
 use Rattle.cjc_methods.proofs.reached.rows_reached.Given as goal
 
 abbrev pub invariant-loop-alloc : goal.invariant-loop-alloc

@@ -1,13 +1,13 @@
 use Rattle.std.proofs.Common.{◌<◌, ◌-◌, arith, sym, ap, subst, ◌∙◌, List, length}
 use Rattle.std.proofs.lemmas.Option.{get_or_from_slice_get, slice_get-get_or, slice_get_within}
-use Rattle.cjc_components.specs.ClassFile.declared.tree.ClassTree.{ClassTree}
-use Rattle.cjc_pool.specs.Bytecode.declared.method_code.MethodCode.{MethodCode}
-use Rattle.cjc_components.specs.LowerLowerTypes.Tables.{IsMethodOf}
+use Rattle.cjc_world.specs.ClassFile.declared.tree.ClassTree.{ClassTree}
+use Rattle.cjc_components.specs.Bytecode.declared.method_code.MethodCode.{MethodCode}
+use Rattle.cjc_narrow.specs.Types.Tables.{IsMethodOf}
 use Rattle.cjc_world.specs.Classes.{all_classes}
-use Rattle.cjc_components.specs.Narrow.Rows.Resolved.{argument_words}
-use Rattle.cjc_components.specs.Narrow.Rows.Selected.{near_fields}
+use Rattle.cjc_narrow.specs.Rows.Resolved.{argument_words}
+use Rattle.cjc_narrow.specs.Rows.Selected.{near_fields}
 use Rattle.cjc_components.specs.Descriptor.{method_in}
-use Rattle.cjc_components.specs.Subset.Ints.{code_works_on_int}
+use Rattle.cjc_pool.specs.Subset.Ints.{code_works_on_int}
 use Rattle.cjc_components.specs.Written.{no_code}
 use Rattle.cjc_methods.proofs.Coded.{with_code, without_code}
 use Rattle.cjc_methods.proofs.Own.{few_words, has_none, has_place, place_is, tree_at, with_read, words_like}

@@ -1,8 +1,8 @@
 use Rattle.std.proofs.Common.{◌≡◌, ◌++◌, List, drop}
 use Rattle.std.specs.Prelude.{map, Option}
-use Rattle.cjc_components.specs.LowerLowerTypes.declared.state.State.{State}
-use Rattle.cjc_components.specs.JvmSemantics.Linked.{Method}
-use Rattle.cjc_components.specs.Narrow.Rows.Selected.{near_fields}
+use Rattle.cjc_narrow.specs.Types.declared.state.State.{State}
+use Rattle.cjc_pool.specs.JvmSemantics.Linked.{Method}
+use Rattle.cjc_narrow.specs.Rows.Selected.{near_fields}
 use Rattle.cjc_components.specs.Written.{code_at}
 use Rattle.cjc_methods.specs.Ready.{AreRows}
 use Rattle.cjc_methods.proofs.selecting.codes_at.Given as goal

@@ -1,9 +1,9 @@
 use Rattle.std.proofs.Common.{ap, ◌∙◌, List, get_or}
-use Rattle.cjc_components.specs.ClassFile.declared.tree.ClassTree.{ClassTree}
-use Rattle.cjc_components.specs.ClassFile.declared.tree.MethodTree.{MethodTree}
-use Rattle.cjc_components.specs.Narrow.Rows.Selected.{near_fields}
-use Rattle.cjc_components.proofs.TypesLeast.{method_same}
-use Rattle.cjc_components.specs.Narrow.Written.Rows.{has_rows}
+use Rattle.cjc_world.specs.ClassFile.declared.tree.ClassTree.{ClassTree}
+use Rattle.cjc_world.specs.ClassFile.declared.tree.MethodTree.{MethodTree}
+use Rattle.cjc_narrow.specs.Rows.Selected.{near_fields}
+use Rattle.cjc_narrow.proofs.TypesLeast.{method_same}
+use Rattle.cjc_narrow.specs.Written.Rows.{has_rows}
 use Rattle.cjc_methods.specs.Ready.{states}
 use Rattle.cjc_methods.proofs.Same.{marks_here, selectable_here, selected_here, tree_same}
 use Rattle.cjc_bytes.proofs.Options.{if_more}

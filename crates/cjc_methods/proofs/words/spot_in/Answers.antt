@@ -6,7 +6,7 @@ use Rattle.cjc_bytes.specs.Refused.{method_text}
 use Rattle.cjc_bytes.specs.Told.{spot_of}
 use Rattle.cjc_bytes.specs.declared.settings.FileLine.{FileLine}
 use Rattle.cjc_bytes.proofs.Gets.{at_is}
-use Rattle.cjc_components.specs.ClassFile.declared.tree.ClassTree.{ClassTree}
+use Rattle.cjc_world.specs.ClassFile.declared.tree.ClassTree.{ClassTree}
 use Rattle.cjc_world.specs.Classes.{Class}
 use Rattle.cjc_methods.specs.Working.Spots.{spot_in}
 use Rattle.cjc_methods.proofs.Own.{tree_at}

@@ -1,8 +1,8 @@
 -- What is written of one method after the other.
 use Rattle.std.specs.Prelude.{◌≡◌, ℕ, List, position, unwrap_or, Bool, if◌then◌else◌}
-use Rattle.cjc_components.specs.NCode.declared.narrow.PoolKey.{PoolKey}
-use Rattle.cjc_components.specs.NCode.PoolOrder.{same_key}
-use Rattle.cjc_components.specs.NCode.Lowering.Naming.{Naming}
+use Rattle.cjc_pool.specs.NCode.declared.narrow.PoolKey.{PoolKey}
+use Rattle.cjc_pool.specs.NCode.PoolOrder.{same_key}
+use Rattle.cjc_pool.specs.NCode.Lowering.Naming.{Naming}
 use Rattle.cjc_components.specs.Methods.{with_abstract}
 
 -- the index of each key is its place among these, 0 of others

@@ -1,7 +1,7 @@
 -- Offsets of methods by their codes and layouts.
 use Rattle.std.specs.Prelude.{ℕ, ◌+◌, List, [], ◌∷◌, length}
-use Rattle.cjc_components.specs.NCode.declared.narrow.NMethod.{NMethod}
-use Rattle.cjc_components.specs.Emit.Emitted.{header_bytes}
+use Rattle.cjc_pool.specs.NCode.declared.narrow.NMethod.{NMethod}
+use Rattle.cjc_pool.specs.Emit.Emitted.{header_bytes}
 use Rattle.cjc_methods.specs.declared.layouts.laid.Laid.{Laid}
 
 -- how many handlers are written

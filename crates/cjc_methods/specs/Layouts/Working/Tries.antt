@@ -6,9 +6,9 @@ use Rattle.cjc_bytes.specs.declared.fault.Refusal.{Refusal}
 use Rattle.cjc_world.specs.declared.found.Found.{Found}
 use Rattle.cjc_world.specs.Classes.{Class, class_at}
 use Rattle.cjc_world.specs.Files.{Files}
-use Rattle.cjc_components.specs.NCode.declared.narrow.NMethod.{NMethod}
-use Rattle.cjc_components.specs.Layout.Layouts.{IsLayout}
-use Rattle.cjc_components.specs.Layout.Refusals.{least, overtaking}
+use Rattle.cjc_pool.specs.NCode.declared.narrow.NMethod.{NMethod}
+use Rattle.cjc_pool.specs.Layout.Layouts.{IsLayout}
+use Rattle.cjc_pool.specs.Layout.Refusals.{least, overtaking}
 use Rattle.cjc_components.specs.Descriptor.{method_in}
 use Rattle.cjc_components.specs.Limits.{method_spot, order_breaks}
 use Rattle.cjc_components.specs.Package.{Package, world}

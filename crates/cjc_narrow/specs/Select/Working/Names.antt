@@ -1,7 +1,7 @@
 -- What the look-ups of names go by.
 use Rattle.std.specs.Prelude.{ℕ, List, nat_lt, Option, Some, None, Bool, false}
-use Rattle.cjc_ncode.specs.Bytes.declared.fault.MemberId.{MemberId}
-use Rattle.cjc_jvm_semantics.specs.World.Files.{Files}
+use Rattle.cjc_types.specs.Bytes.declared.fault.MemberId.{MemberId}
+use Rattle.cjc_types.specs.World.Files.{Files}
 use Rattle.cjc_ncode.specs.Written.{Resolution}
 use Rattle.cjc_narrow.specs.Rows.Resolved.{resolution}
 

@@ -1,7 +1,7 @@
 -- Whether a switch keeps a case, and the numbers that are tried in turn.
 use Rattle.std.specs.Prelude.{ℕ, List, [], ◌∷◌, Bool, false, ◌||◌, if◌then◌else◌, ℤ, pos, ◌+ℤ◌}
 use Rattle.std.specs.Int.RustNames.{int_le}
-use Rattle.cjc_ncode.specs.CardSemantics.Bytecode.Numbers.{is_word}
+use Rattle.cjc_ncode.specs.LowerCardSemantics.Bytecode.Numbers.{is_word}
 use Rattle.cjc_ncode.specs.declared.narrow.NCase.{NCase}
 
 -- some value of a table from a low one on is a word

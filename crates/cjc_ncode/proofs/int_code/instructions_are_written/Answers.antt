@@ -1,5 +1,5 @@
 use Rattle.std.proofs.Common.{refl}
-use Rattle.cjc_code.specs.LowerBytes.Spots.{after, bad_at, types_from, parts_of, desc_of}
+use Rattle.cjc_code.specs.Bytes.Spots.{after, bad_at, types_from, parts_of, desc_of}
 use Rattle.cjc_ncode.proofs.int_code.instructions_are_written.Goals as goal
 
 pub returns-clause-last_parameter : goal.returns-clause-last_parameter

@@ -1,5 +1,5 @@
 use Rattle.std.proofs.Common.{refl}
-use Rattle.cjc_card_semantics.specs.LowerScript.Sorts.{Booleans, Bytes, Shorts, Ints}
+use Rattle.cjc_card_semantics.specs.Script.Sorts.{Booleans, Bytes, Shorts, Ints}
 use Rattle.cjc_card_semantics.specs.Bytecode.Meanings.{meaning}
 use Rattle.cjc_ncode.specs.Lowering.Laid.{numbers, push, local, increase, words, jump, range, lookup, casts, asks}
 use Rattle.cjc_ncode.proofs.lowering.opcodes_are_formed.Goals as goal

@@ -1,6 +1,6 @@
 use Rattle.std.proofs.Common.{refl}
 use Rattle.cjc_card_semantics.specs.Bytecode.Meanings.{meaning}
-use Rattle.cjc_card_semantics.specs.LowerCapRead.Opcodes.{form, forms}
+use Rattle.cjc_card_semantics.specs.CapRead.Opcodes.{form, forms}
 use Rattle.cjc_ncode.specs.Lowering.Naming.{calls_virtual, calls_static, makes}
 use Rattle.cjc_ncode.specs.Lowering.Laid.{named}
 use Rattle.cjc_ncode.specs.Lowering.Package.{none, next}

@@ -1,5 +1,5 @@
 use Rattle.std.proofs.Common.{◌≡◌, sum_by, take}
-use Rattle.cjc_classes.specs.Components.Statics.{size_of_field}
+use Rattle.cjc_classes.specs.LowerComponents.Statics.{size_of_field}
 use Rattle.cjc_pairing.proofs.cells.value_bytes.Given as goal
 
 abbrev pub invariant-loop-value : goal.invariant-loop-value

@@ -1,8 +1,8 @@
 use Rattle.std.proofs.Common.{◌≡◌, ◌+◌, ap, arith, drop, get_or, length, map, sym, ◌∙◌}
 use Rattle.std.specs.Prelude.{sum_by}
 use Rattle.cjc_card_link.proofs.CheckRulesFirsts.{sum_step}
-use Rattle.cjc_card_link.specs.CheckRules.Complete.{described_size}
-use Rattle.cjc_card_link.specs.CheckRules.Consistent.{break_at}
+use Rattle.cjc_classes.specs.CheckRules.Complete.{described_size}
+use Rattle.cjc_classes.specs.CheckRules.Consistent.{break_at}
 use Rattle.cjc_pairing.proofs.Heads.{all, passed, short, stopped}
 use Rattle.cjc_pairing.proofs.pair.method_break.Goals as goal
 

@@ -1,8 +1,8 @@
 use Rattle.std.proofs.Common.{◌≡◌, ◌+◌, drop}
 use Rattle.std.specs.Prelude.{sum_by}
-use Rattle.cjc_classes.specs.Components.Paired.Pairs.{head_of}
-use Rattle.cjc_card_link.specs.CheckRules.Complete.{described_size}
-use Rattle.cjc_card_link.specs.CheckRules.Spots.{beside}
+use Rattle.cjc_classes.specs.LowerComponents.Paired.Pairs.{head_of}
+use Rattle.cjc_classes.specs.CheckRules.Complete.{described_size}
+use Rattle.cjc_classes.specs.CheckRules.Spots.{beside}
 use Rattle.cjc_pairing.specs.Working.Heads.{count_spots_at}
 use Rattle.cjc_pairing.proofs.pair.method_break.Given as goal
 

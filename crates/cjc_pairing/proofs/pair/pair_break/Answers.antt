@@ -1,12 +1,12 @@
 use Rattle.std.proofs.Common.{◌≡◌, ap, ◌∙◌, length, map, subst, ℕ, List}
 use Rattle.std.specs.Prelude.{◌==◌}
 use Rattle.std.proofs.lemmas.List.{length-map}
-use Rattle.cjc_card_link.specs.CheckIndex.Lookup.Parts.{complete_of}
-use Rattle.cjc_classes.specs.Components.Paired.Pairs.{cell_spots, count_spots, info_count, method_spots}
-use Rattle.cjc_card_link.specs.CheckRules.declared.spot.ComponentPlace.{ComponentPlace}
-use Rattle.cjc_card_link.specs.CheckRules.Spots.{in_info, unless}
-use Rattle.cjc_classes.specs.World.Classes.{Class, all_classes}
-use Rattle.cjc_classes.specs.World.Order.{class_order, methods_of_class}
+use Rattle.cjc_card_link.specs.LowerCheckIndex.Lookup.Parts.{complete_of}
+use Rattle.cjc_classes.specs.LowerComponents.Paired.Pairs.{cell_spots, count_spots, info_count, method_spots}
+use Rattle.cjc_classes.specs.CheckRules.declared.spot.ComponentPlace.{ComponentPlace}
+use Rattle.cjc_classes.specs.CheckRules.Spots.{in_info, unless}
+use Rattle.cjc_card_link.specs.World.Classes.{Class, all_classes}
+use Rattle.cjc_card_link.specs.World.Order.{class_order, methods_of_class}
 use Rattle.cjc_pairing.specs.Working.Heads.{IsHead}
 use Rattle.cjc_pairing.proofs.Heads.{by_classes, spots_from}
 use Rattle.cjc_pairing.proofs.pair.pair_break.Goals as goal

@@ -1,6 +1,6 @@
 use Rattle.std.proofs.lemmas.Result.{on_ok_weaker}
-use Rattle.cjc_card_link.specs.CheckIndex.Lookup.Parts.{complete_of}
-use Rattle.cjc_classes.specs.Components.Paired.Pairs.{pair_breaks, pair_spots}
+use Rattle.cjc_card_link.specs.LowerCheckIndex.Lookup.Parts.{complete_of}
+use Rattle.cjc_classes.specs.LowerComponents.Paired.Pairs.{pair_breaks, pair_spots}
 use Rattle.cjc_pairing.proofs.Heads.{first_alone, none_told}
 use Rattle.cjc_pairing.proofs.pair.test_pair.Goals as goal
 

@@ -1,10 +1,10 @@
 -- Static cells by the offsets of their fields.
 use Rattle.std.specs.Prelude.{ℕ, List, [], ◌∷◌, ◌++◌, if◌then◌else◌}
-use Rattle.cjc_card_link.specs.CardSemantics.Machine.Loaded.{CellName}
-use Rattle.cjc_card_link.specs.ClassFile.declared.tree.ClassTree.{ClassTree}
-use Rattle.cjc_card_link.specs.ClassFile.declared.tree.FieldTree.{FieldTree}
-use Rattle.cjc_classes.specs.LowerClinit.Fields.{is_cell}
-use Rattle.cjc_classes.specs.LowerClinit.Image.{field_id}
+use Rattle.cjc_classes.specs.CardSemantics.Machine.Loaded.{CellName}
+use Rattle.cjc_classes.specs.ClassFile.declared.tree.ClassTree.{ClassTree}
+use Rattle.cjc_classes.specs.ClassFile.declared.tree.FieldTree.{FieldTree}
+use Rattle.cjc_classes.specs.Clinit.Fields.{is_cell}
+use Rattle.cjc_classes.specs.Clinit.Image.{field_id}
 
 -- what items give beside others, as far as there are both
 abbrev pub beside : {A B C : Type 0} → (A → B → List C) → List A → List B → List C

@@ -4,16 +4,16 @@ use Rattle.std.specs.Prelude.{ℕ, ◌+◌, List, [], ◌∷◌, ◌++◌, slice
 use Rattle.std.specs.Prelude.{if◌then◌else◌, codes}
 use Rattle.std.specs.List.{flat_map}
 use Rattle.std.specs.Str.{bytes_eq}
-use Rattle.cjc_card_link.specs.CardSemantics.Machine.Loaded.{MethodName, FieldName, ClassNames}
-use Rattle.cjc_card_link.specs.ClassFile.declared.tree.ClassTree.{ClassTree}
-use Rattle.cjc_card_link.specs.ClassFile.declared.tree.FieldTree.{FieldTree}
-use Rattle.cjc_card_link.specs.ClassFile.declared.tree.MethodTree.{MethodTree}
-use Rattle.cjc_classes.specs.Components.Paired.Naming.{interface_names, signature_name}
-use Rattle.cjc_classes.specs.Tokens.Fields.{is_instance}
-use Rattle.cjc_classes.specs.Tokens.Members.{Signature}
-use Rattle.cjc_classes.specs.Tokens.Tokens.{Assigned, token_of_member}
-use Rattle.cjc_classes.specs.World.Classes.{all_classes, declared}
-use Rattle.cjc_classes.specs.World.Files.{Files}
+use Rattle.cjc_classes.specs.CardSemantics.Machine.Loaded.{MethodName, FieldName, ClassNames}
+use Rattle.cjc_classes.specs.ClassFile.declared.tree.ClassTree.{ClassTree}
+use Rattle.cjc_classes.specs.ClassFile.declared.tree.FieldTree.{FieldTree}
+use Rattle.cjc_classes.specs.ClassFile.declared.tree.MethodTree.{MethodTree}
+use Rattle.cjc_classes.specs.LowerComponents.Paired.Naming.{interface_names, signature_name}
+use Rattle.cjc_classes.specs.LowerTokens.Fields.{is_instance}
+use Rattle.cjc_classes.specs.LowerTokens.Members.{Signature}
+use Rattle.cjc_classes.specs.LowerTokens.Tokens.{Assigned, token_of_member}
+use Rattle.cjc_card_link.specs.World.Classes.{all_classes, declared}
+use Rattle.cjc_card_link.specs.World.Files.{Files}
 
 -- what items give by their places, the first of which has this one
 abbrev pub each_from : {A B : Type 0} → (ℕ → A → List B) → (place : ℕ) → List A → List B

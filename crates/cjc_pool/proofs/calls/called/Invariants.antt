@@ -1,7 +1,7 @@
 use Rattle.std.proofs.Common.{◌≡◌, [], drop}
 use Rattle.std.specs.List.{flat_map}
 use Rattle.indexmap.specs.IndexSet.{insert_all}
-use Rattle.cjc_narrow.specs.NCode.PoolOrder.{same_key}
+use Rattle.cjc_narrow.specs.LowerNCode.PoolOrder.{same_key}
 use Rattle.cjc_pool.specs.Working.Calls.{method_calls}
 use Rattle.cjc_pool.proofs.calls.called.Given as goal
 

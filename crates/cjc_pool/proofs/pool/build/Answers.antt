@@ -1,8 +1,8 @@
 use Rattle.std.proofs.Common.{◌∙◌, ap, List, map}
 use Rattle.std.specs.Prelude.{[], flat_map}
 use Rattle.indexmap.specs.IndexSet.{insert_all}
-use Rattle.cjc_narrow.specs.NCode.PoolOrder.{pool_order, same_key}
-use Rattle.cjc_narrow.specs.NCode.declared.narrow.NMethod.{NMethod}
+use Rattle.cjc_narrow.specs.LowerNCode.PoolOrder.{pool_order, same_key}
+use Rattle.cjc_narrow.specs.LowerNCode.declared.narrow.NMethod.{NMethod}
 use Rattle.cjc_pool.specs.Working.Calls.{key_token, method_calls}
 use Rattle.cjc_pool.proofs.Tokens.{token_found}
 use Rattle.cjc_pool.proofs.pool.build.Goals as goal

@@ -21,6 +21,12 @@ gather_make-requires-clause-greatest g c = let h = rw c.in-Make.is at c.requires
 pub returns-in-Verify : goal.returns-in-Verify
 returns-in-Verify g c = rw c.in-Verify.is c.gather_verify.ensures
 
+pub returns-in-Link : goal.returns-in-Link
+returns-in-Link g c = rw c.in-Link.is c.gather_link.ensures
+
+pub returns-in-LinkJvm : goal.returns-in-LinkJvm
+returns-in-LinkJvm g c = rw c.in-LinkJvm.is c.gather_linkjvm.ensures
+
 pub returns-in-Compat : goal.returns-in-Compat
 returns-in-Compat g c = rw c.in-Compat.is c.gather_compat.ensures
 

@@ -1,5 +1,5 @@
 use Rattle.std.proofs.Common.{◌≡◌, Ok, subst}
-use Rattle.cjc_list.specs.LowerBytes.Text.{TextLine}
+use Rattle.cjc_list.specs.Bytes.Text.{TextLine}
 use Rattle.cjc_script_text.specs.Scripted.{with_line}
 use Rattle.cjc_script_text.proofs.Loops.{lines_next, one_turn}
 use Rattle.cjc_script_text.proofs.reading.read_lines.Goals as goal

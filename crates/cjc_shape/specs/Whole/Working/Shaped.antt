@@ -1,16 +1,16 @@
 -- A package whose methods are laid out and break no rule, as the code holds it.
 use Rattle.std.specs.Prelude.{◌≡◌, ◌⊎◌, ℕ, Bool, ◌&&◌, List, []}
-use Rattle.cjc_methods.specs.Bytes.Breaks.{Break, at, list_spot}
-use Rattle.cjc_methods.specs.Bytes.declared.fault.Fault.{Fault}
-use Rattle.cjc_methods.specs.Bytes.declared.fault.Fault.TheVariants as faults
-use Rattle.cjc_methods.specs.Bytes.declared.fault.Refusal.{Refusal}
-use Rattle.cjc_methods.specs.Components.ExportFile.{export_of}
-use Rattle.cjc_methods.specs.Components.Limits.{code_breaks, of_methods, word_breaks}
-use Rattle.cjc_methods.specs.Components.Package.{Package, tokens}
-use Rattle.cjc_narrow_proof.specs.Subset.Ints.{any_works_on_int}
+use Rattle.cjc_exported.specs.Bytes.Breaks.{Break, at, list_spot}
+use Rattle.cjc_exported.specs.Bytes.declared.fault.Fault.{Fault}
+use Rattle.cjc_exported.specs.Bytes.declared.fault.Fault.TheVariants as faults
+use Rattle.cjc_exported.specs.Bytes.declared.fault.Refusal.{Refusal}
+use Rattle.cjc_exported.specs.Components.ExportFile.{export_of}
+use Rattle.cjc_exported.specs.Components.Limits.{code_breaks, of_methods, word_breaks}
+use Rattle.cjc_exported.specs.Components.Package.{Package, tokens}
+use Rattle.cjc_methods.specs.Subset.Ints.{any_works_on_int}
 use Rattle.cjc_judge.specs.declared.judged.Judged.{Judged}
 use Rattle.cjc_methods.specs.Layouts.Laid.{AreLaid, laid_methods}
-use Rattle.cjc_judge.specs.List.Listed.{ListTree}
+use Rattle.cjc_methods.specs.List.Listed.{ListTree}
 use Rattle.cjc_shape.specs.Whole.Conversion.{IsPackageOf, IsRefused}
 use Rattle.cjc_shape.specs.declared.whole.shaping.Shaped.{Shaped}
 

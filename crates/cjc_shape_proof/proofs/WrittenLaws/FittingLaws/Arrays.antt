@@ -7,21 +7,21 @@ use Rattle.cjc_bytes.specs.declared.fault.MemberId.{MemberId}
 use Rattle.cjc_bytes.specs.declared.descriptor.Kind.{Kind}
 use Rattle.cjc_bytes.proofs.Quantified.{all_both, all_same}
 use Rattle.cjc_bytes.specs.declared.descriptor.Kind.TheVariants as kinds
-use Rattle.cjc_tokens.specs.ClassFile.declared.tree.ClassTree.{ClassTree}
-use Rattle.cjc_tokens.specs.ClassFile.declared.tree.FieldTree.{FieldTree}
-use Rattle.cjc_narrow_proof.specs.Bytecode.declared.insn.JOp.{JOp}
-use Rattle.cjc_narrow_proof.specs.Bytecode.declared.method_code.MethodCode.{MethodCode}
-use Rattle.cjc_components.specs.Clinit.declared.stage.Held.{Held}
-use Rattle.cjc_components.specs.Clinit.declared.stage.Start.{Start}
-use Rattle.cjc_components.specs.Clinit.declared.stage.Start.TheVariants as begun
-use Rattle.cjc_components.specs.Clinit.Fields.{Contents, ANumber, ANull, AnArray, fits}
-use Rattle.cjc_components.specs.Clinit.Image as Image
-use Rattle.cjc_components.specs.Clinit.Image.{AreInitialised, IsImage, array_in, arrays_of, of_classes}
-use Rattle.cjc_components.specs.Clinit.Image.{of_fields, of_start, own_field}
-use Rattle.cjc_components.specs.Clinit.Initialiser as Initialiser
-use Rattle.cjc_components.specs.Clinit.Initialiser.{Initialises, Makes, Put, Stores, element_kind}
+use Rattle.cjc_world.specs.ClassFile.declared.tree.ClassTree.{ClassTree}
+use Rattle.cjc_world.specs.ClassFile.declared.tree.FieldTree.{FieldTree}
+use Rattle.cjc_components.specs.Bytecode.declared.insn.JOp.{JOp}
+use Rattle.cjc_components.specs.Bytecode.declared.method_code.MethodCode.{MethodCode}
+use Rattle.cjc_classes.specs.Clinit.declared.stage.Held.{Held}
+use Rattle.cjc_classes.specs.Clinit.declared.stage.Start.{Start}
+use Rattle.cjc_classes.specs.Clinit.declared.stage.Start.TheVariants as begun
+use Rattle.cjc_classes.specs.Clinit.Fields.{Contents, ANumber, ANull, AnArray, fits}
+use Rattle.cjc_classes.specs.Clinit.Image as Image
+use Rattle.cjc_classes.specs.Clinit.Image.{AreInitialised, IsImage, array_in, arrays_of, of_classes}
+use Rattle.cjc_classes.specs.Clinit.Image.{of_fields, of_start, own_field}
+use Rattle.cjc_classes.specs.Clinit.Initialiser as Initialiser
+use Rattle.cjc_classes.specs.Clinit.Initialiser.{Initialises, Makes, Put, Stores, element_kind}
 use Rattle.cjc_classes.specs.Descriptor.Fits.{FitsArray, is_number_of}
-use Rattle.cjc_components.specs.Script.Sorts.{sort_by}
+use Rattle.cjc_narrow_proof.specs.Script.Sorts.{sort_by}
 use Rattle.std.specs.Ordering.{int_eq}
 use Rattle.cjc_world.specs.declared.image.ArrayCell.{ArrayCell}
 use Rattle.cjc_world.specs.declared.image.StaticImage.{StaticImage}

@@ -11,39 +11,39 @@ use Rattle.cjc_bytes.specs.AccessFlags.{is_interface, is_static}
 use Rattle.cjc_bytes.specs.declared.fault.MemberId.{MemberId}
 use Rattle.cjc_bytes.proofs.Options.{option_taken}
 use Rattle.cjc_bytes.proofs.Gets.{set_same, set_other}
-use Rattle.cjc_tokens.specs.ClassFile.declared.tree.ClassTree.{ClassTree}
-use Rattle.cjc_tokens.specs.ClassFile.declared.tree.FieldTree.{FieldTree}
-use Rattle.cjc_components.specs.Clinit.Fields.{ANull, ANumber, AnArray, Contents, held_by, is_cell, takes}
-use Rattle.cjc_components.specs.Clinit.Image as Image
-use Rattle.cjc_components.specs.Clinit.Image.{AreInitialised, IsImage, array_in, arrays_of, empty, field_id, fields_in}
-use Rattle.cjc_components.specs.Clinit.Image.{held_in}
-use Rattle.cjc_components.specs.Clinit.Image.{image_of, initialised, of_classes, of_fields, of_start, own_field}
-use Rattle.cjc_components.specs.Clinit.Image.{start_by}
-use Rattle.cjc_components.specs.Clinit.Image.{start_of}
-use Rattle.cjc_components.specs.Clinit.Initialiser as Initialiser
-use Rattle.cjc_components.specs.Clinit.Initialiser.{Initialises, Put, nothing_in, open_place}
-use Rattle.cjc_components.specs.Clinit.declared.stage.Held.{Held}
-use Rattle.cjc_components.specs.Clinit.declared.stage.Held.TheVariants as held
-use Rattle.cjc_components.specs.Clinit.declared.stage.Start.{Start}
-use Rattle.cjc_components.specs.Clinit.declared.stage.Start.TheVariants as begun
+use Rattle.cjc_world.specs.ClassFile.declared.tree.ClassTree.{ClassTree}
+use Rattle.cjc_world.specs.ClassFile.declared.tree.FieldTree.{FieldTree}
+use Rattle.cjc_classes.specs.Clinit.Fields.{ANull, ANumber, AnArray, Contents, held_by, is_cell, takes}
+use Rattle.cjc_classes.specs.Clinit.Image as Image
+use Rattle.cjc_classes.specs.Clinit.Image.{AreInitialised, IsImage, array_in, arrays_of, empty, field_id, fields_in}
+use Rattle.cjc_classes.specs.Clinit.Image.{held_in}
+use Rattle.cjc_classes.specs.Clinit.Image.{image_of, initialised, of_classes, of_fields, of_start, own_field}
+use Rattle.cjc_classes.specs.Clinit.Image.{start_by}
+use Rattle.cjc_classes.specs.Clinit.Image.{start_of}
+use Rattle.cjc_classes.specs.Clinit.Initialiser as Initialiser
+use Rattle.cjc_classes.specs.Clinit.Initialiser.{Initialises, Put, nothing_in, open_place}
+use Rattle.cjc_classes.specs.Clinit.declared.stage.Held.{Held}
+use Rattle.cjc_classes.specs.Clinit.declared.stage.Held.TheVariants as held
+use Rattle.cjc_classes.specs.Clinit.declared.stage.Start.{Start}
+use Rattle.cjc_classes.specs.Clinit.declared.stage.Start.TheVariants as begun
 use Rattle.cjc_check_proof.proofs.WorldProofPackages.{class-there}
 use Rattle.cjc_check_proof.proofs.WorldProofPlaces.{place-field}
-use Rattle.cjc_check_proof.specs.LowerWorldProof.Initialisers.Values.{StandOnce}
+use Rattle.cjc_check_proof.specs.WorldProof.Initialisers.Values.{StandOnce}
 use Rattle.cjc_check_proof.proofs.WorldProofValues.{nothing-only}
-use Rattle.cjc_narrow_proof.specs.Bytecode.declared.insn.JOp.{JOp}
-use Rattle.cjc_narrow_proof.specs.Bytecode.declared.method_code.MethodCode.{MethodCode}
+use Rattle.cjc_components.specs.Bytecode.declared.insn.JOp.{JOp}
+use Rattle.cjc_components.specs.Bytecode.declared.method_code.MethodCode.{MethodCode}
 use Rattle.cjc_components.specs.Descriptor.{field_descriptor, fields_from}
 use Rattle.cjc_components.specs.Class.{fields_in as class_fields, fields_of}
 use Rattle.cjc_components.specs.Package.{Package, world}
 use Rattle.cjc_components.specs.Statics.{cell_order}
 use Rattle.cjc_tokens.specs.Fields.{is_constant}
-use Rattle.cjc_vtable.specs.ClassOrder.Classes.Numbers.{class_count, numbered_from}
+use Rattle.cjc_classes.specs.ClassOrder.Classes.Numbers.{class_count, numbered_from}
 use Rattle.cjc_check_proof.specs.Limits.Premises.{CellsAreDescribed}
 use Rattle.cjc_check_proof.proofs.ClassesLaws.Lists.{has-back}
 use Rattle.cjc_narrow_proof.proofs.LawsLaws.Own.{class_by_name}
 use Rattle.cjc_check_proof.proofs.TokenProofFiled.{one_class, own_in, has-front}
 use Rattle.cjc_check_proof.proofs.TokenProofOrder.{all-lined}
-use Rattle.cjc_check_proof.specs.LowerTokenProof.Tables.Sound.{export_count}
+use Rattle.cjc_check_proof.specs.TokenProof.Tables.Sound.{export_count}
 use Rattle.cjc_vtable.proofs.Filed.{Has}
 use Rattle.cjc_world.proofs.Settled.{clear_settles}
 use Rattle.cjc_world.specs.Classes.{Class, declared}

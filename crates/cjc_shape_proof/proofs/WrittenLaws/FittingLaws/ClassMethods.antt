@@ -12,7 +12,7 @@ use Rattle.std.proofs.lemmas.Map.Steps.{length-le_from_distinct_below}
 use Rattle.std.proofs.lemmas.Option.{slice_get_within}
 use Rattle.cjc_bytes.specs.AccessFlags.{is_interface}
 use Rattle.cjc_bytes.proofs.Gets.{mapped_at}
-use Rattle.cjc_tokens.specs.ClassFile.declared.tree.ClassTree.{ClassTree}
+use Rattle.cjc_world.specs.ClassFile.declared.tree.ClassTree.{ClassTree}
 use Rattle.cjc_components.specs.Class.{is_shareable}
 use Rattle.cjc_components.specs.Descriptor.{as_added, method_in}
 use Rattle.cjc_components.specs.ExportFile.{added_from, export_class, inherited_from, is_listed, method_entry}
@@ -20,16 +20,16 @@ use Rattle.cjc_components.specs.ExportFile.{methods_from, supers_from}
 use Rattle.cjc_components.specs.Exports.{exported_classes}
 use Rattle.cjc_components.specs.Names.{member_token}
 use Rattle.cjc_components.specs.Package.{Package, has_applets, world}
-use Rattle.cjc_tokens.specs.ExportFile.Members.{is_unbound, same_bool}
-use Rattle.cjc_tokens.specs.ExportFile.Writable.{EachAfter, MethodStands}
-use Rattle.cjc_tokens.specs.ExportFile.declared.tree.ExportMethod.{ExportMethod}
+use Rattle.cjc_world.specs.ExportFile.Members.{is_unbound, same_bool}
+use Rattle.cjc_world.specs.ExportFile.Writable.{EachAfter, MethodStands}
+use Rattle.cjc_world.specs.ExportFile.declared.tree.ExportMethod.{ExportMethod}
 use Rattle.cjc_shape.proofs.ExportedOwn.{IsOwn, own_class}
 use Rattle.cjc_shape.proofs.ExportedTokens.{counted}
-use Rattle.cjc_shape.specs.Judge.Rules.{settings_of}
-use Rattle.cjc_shape.specs.Judge.declared.judged.Judged.{Judged}
-use Rattle.cjc_components.specs.List.Listed.{ListTree}
+use Rattle.cjc_shape.specs.LowerJudge.Rules.{settings_of}
+use Rattle.cjc_shape.specs.LowerJudge.declared.judged.Judged.{Judged}
+use Rattle.cjc_classes.specs.List.Listed.{ListTree}
 use Rattle.cjc_narrow_proof.proofs.LawsLaws.Own.{class_by_name, own_kept}
-use Rattle.cjc_vtable.specs.Subset.Flags.{has_two_accesses}
+use Rattle.cjc_classes.specs.Subset.Flags.{has_two_accesses}
 use Rattle.cjc_tokens.specs.Lines.{line_at}
 use Rattle.cjc_tokens.specs.Members.{Signature, is_shown, signature_of}
 use Rattle.cjc_tokens.specs.Methods.{interface_methods, interface_row, is_open_bound}

@@ -18,12 +18,12 @@ use Rattle.cjc_components.specs.Limits.{has_far_types, has_large_component, size
 use Rattle.cjc_components.specs.Names.{class_ref}
 use Rattle.cjc_components.specs.Package.{Package, world}
 use Rattle.cjc_check_proof.proofs.LimitsLaws.Offsets.{widest_short}
-use Rattle.cjc_shape.specs.Judge.Rules.{settings_of}
-use Rattle.cjc_shape.specs.Judge.declared.judged.Judged.{Judged}
-use Rattle.cjc_components.specs.List.Listed.{ListTree}
-use Rattle.cjc_components.specs.CheckRules.Complete.{class_info_size}
-use Rattle.cjc_vtable.specs.Subset.Applets.{has_unfit_applets, is_applet, is_install, is_unfit_applet, is_unfit_class}
-use Rattle.cjc_vtable.specs.Subset.Applets.{repeats_aid}
+use Rattle.cjc_shape.specs.LowerJudge.Rules.{settings_of}
+use Rattle.cjc_shape.specs.LowerJudge.declared.judged.Judged.{Judged}
+use Rattle.cjc_classes.specs.List.Listed.{ListTree}
+use Rattle.cjc_check_proof.specs.CheckRules.Complete.{class_info_size}
+use Rattle.cjc_classes.specs.Subset.Applets.{has_unfit_applets, is_applet, is_install, is_unfit_applet, is_unfit_class}
+use Rattle.cjc_classes.specs.Subset.Applets.{repeats_aid}
 use Rattle.cjc_tokens.proofs.Supers.{class_at-number}
 use Rattle.cjc_tokens.specs.Members.{is_constructor, is_initialiser}
 use Rattle.cjc_tokens.specs.Methods.{is_open_bound}

@@ -16,31 +16,31 @@ use Rattle.cjc_bytes.specs.Text.{decimal, decimal_from, is_digit}
 use Rattle.cjc_bytes.proofs.Gets.{all_at}
 use Rattle.cjc_bytes.proofs.Bools.{or_right}
 use Rattle.cjc_world.proofs.ClassFileFitting.{spelt_fits}
-use Rattle.cjc_tokens.specs.ClassFile.ClassFile.{class_file}
-use Rattle.cjc_tokens.specs.ClassFile.Fits.{FieldFits}
-use Rattle.cjc_tokens.specs.ClassFile.declared.tree.ClassTree.{ClassTree}
+use Rattle.cjc_world.specs.ClassFile.ClassFile.{class_file}
+use Rattle.cjc_world.specs.ClassFile.Fits.{FieldFits}
+use Rattle.cjc_world.specs.ClassFile.declared.tree.ClassTree.{ClassTree}
 use Rattle.cjc_components.specs.ExportFile.{export_of}
 use Rattle.cjc_components.specs.Limits.{has_many_entries, layout_breaks, of_methods, spot_of_list}
 use Rattle.cjc_components.specs.Package.{Package, pool, world}
 use Rattle.cjc_world.proofs.ExportFileRooted.{has_root}
-use Rattle.cjc_tokens.specs.ExportFile.Members.{as_desc}
-use Rattle.cjc_tokens.specs.ExportFile.Pool.{aid_length}
-use Rattle.cjc_tokens.specs.ExportFile.Writable.{IsText}
-use Rattle.cjc_tokens.specs.ExportFile.Written.{constants}
+use Rattle.cjc_world.specs.ExportFile.Members.{as_desc}
+use Rattle.cjc_world.specs.ExportFile.Pool.{aid_length}
+use Rattle.cjc_world.specs.ExportFile.Writable.{IsText}
+use Rattle.cjc_world.specs.ExportFile.Written.{constants}
 use Rattle.cjc_shape.proofs.ExportedOwn.{IsOwn, own_class}
-use Rattle.cjc_shape.specs.Exported.Exportable.{ClassIsRead, ClassStands, ClassesStand, IsExportable, ListIsRead}
-use Rattle.cjc_shape.specs.Judge.Rules.{settings_of}
-use Rattle.cjc_shape.specs.Judge.Spelt.{IsRead}
-use Rattle.cjc_shape.specs.Judge.declared.judged.Judged.{Judged}
-use Rattle.cjc_components.specs.List.Listed.{ListTree}
+use Rattle.cjc_shape.specs.LowerExported.Exportable.{ClassIsRead, ClassStands, ClassesStand, IsExportable, ListIsRead}
+use Rattle.cjc_shape.specs.LowerJudge.Rules.{settings_of}
+use Rattle.cjc_shape.specs.LowerJudge.Spelt.{IsRead}
+use Rattle.cjc_shape.specs.LowerJudge.declared.judged.Judged.{Judged}
+use Rattle.cjc_classes.specs.List.Listed.{ListTree}
 use Rattle.cjc_narrow_proof.proofs.LawsLaws.Own.{own_kept}
 use Rattle.cjc_shape.proofs.PreparedLaws.Sound as Sound
 use Rattle.cjc_shape.proofs.WholeLaws.Second.{forms_of}
 use Rattle.cjc_narrow_proof.proofs.BytecodeMembers.{read_class}
-use Rattle.cjc_narrow_proof.specs.Bytecode.ReadLaws.Members.{IsDescOf}
+use Rattle.cjc_components.specs.Bytecode.ReadLaws.Members.{IsDescOf}
 use Rattle.cjc_tokens.specs.Rules.{FewCells}
 use Rattle.cjc_vtable.proofs.Numbers.{at-tree}
-use Rattle.cjc_vtable.specs.ClassOrder.Supers.Supers.{interfaces, superclasses}
+use Rattle.cjc_classes.specs.ClassOrder.Supers.Supers.{interfaces, superclasses}
 use Rattle.cjc_world.specs.Classes.{Class, class_at, declared, field_of_class}
 use Rattle.cjc_world.specs.Rules.{is_second}
 use Rattle.cjc_shape_proof.proofs.WrittenLaws.FittingLaws.Flags.{HasFlags, small_flags}

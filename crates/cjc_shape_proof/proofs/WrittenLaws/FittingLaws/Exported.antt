@@ -9,16 +9,16 @@ use Rattle.cjc_bytes.specs.AccessFlags.{acc_native, acc_strict, acc_synchronized
 use Rattle.cjc_bytes.specs.AccessFlags.{is_private, is_static}
 use Rattle.cjc_bytes.specs.Format.{FileSpells}
 use Rattle.cjc_bytes.proofs.Bools.{or_left, or_right}
-use Rattle.cjc_tokens.specs.ClassFile.ClassFile.{class_file}
-use Rattle.cjc_tokens.specs.ClassFile.declared.tree.ClassTree.{ClassTree}
-use Rattle.cjc_tokens.specs.ClassFile.declared.tree.MethodTree.{MethodTree}
+use Rattle.cjc_world.specs.ClassFile.ClassFile.{class_file}
+use Rattle.cjc_world.specs.ClassFile.declared.tree.ClassTree.{ClassTree}
+use Rattle.cjc_world.specs.ClassFile.declared.tree.MethodTree.{MethodTree}
 use Rattle.cjc_components.specs.Class.{fields_in, fields_of}
 use Rattle.cjc_components.specs.Exports.{exported_classes, open_methods}
 use Rattle.cjc_components.specs.Package.{Package, has_applets, world}
 use Rattle.cjc_shape.proofs.ExportedOwn.{IsOwn, own_class}
 use Rattle.cjc_shape.proofs.ExportedTokens.{few_statics, low_tokens}
 use Rattle.cjc_check_proof.specs.Limits.Premises.{ExportsFew}
-use Rattle.cjc_vtable.specs.Subset.Flags.{has_two_accesses, is_unfit_method}
+use Rattle.cjc_classes.specs.Subset.Flags.{has_two_accesses, is_unfit_method}
 use Rattle.cjc_tokens.specs.Fields.{is_open_static}
 use Rattle.cjc_tokens.specs.Members.{is_constructor, is_exposed, is_initialiser}
 use Rattle.cjc_tokens.specs.Methods.{interface_methods, is_open_bound}

@@ -3,14 +3,14 @@ use Rattle.std.proofs.Common.{ℕ, zero, suc, ◌^◌, ◌<◌, subst, List}
 use Rattle.std.specs.List.{AllByRecursion}
 use Rattle.cjc_bytes.proofs.Inverse.{InBytes, given, inner, u2_is}
 use Rattle.cjc_bytes.specs.Format.{FileSpells, Format, Spells, gives, in_a_row, repeated, u2, ◌>>=◌}
-use Rattle.cjc_tokens.specs.ClassFile.ClassFile.{back_part, class_file}
-use Rattle.cjc_tokens.specs.ClassFile.Entry.{Entry}
-use Rattle.cjc_tokens.specs.ClassFile.Members.{attribute, field_tree}
-use Rattle.cjc_tokens.specs.ClassFile.Methods.{method_tree}
-use Rattle.cjc_tokens.specs.ClassFile.declared.tree.ClassTree.{ClassTree}
-use Rattle.cjc_tokens.specs.ClassFile.declared.tree.FieldTree.{FieldTree}
-use Rattle.cjc_tokens.specs.ClassFile.declared.tree.MethodTree.{MethodTree}
-use Rattle.cjc_tokens.specs.ClassFile.PoolItem.{PoolItem}
+use Rattle.cjc_world.specs.ClassFile.ClassFile.{back_part, class_file}
+use Rattle.cjc_world.specs.ClassFile.Entry.{Entry}
+use Rattle.cjc_world.specs.ClassFile.Members.{attribute, field_tree}
+use Rattle.cjc_world.specs.ClassFile.Methods.{method_tree}
+use Rattle.cjc_world.specs.ClassFile.declared.tree.ClassTree.{ClassTree}
+use Rattle.cjc_world.specs.ClassFile.declared.tree.FieldTree.{FieldTree}
+use Rattle.cjc_world.specs.ClassFile.declared.tree.MethodTree.{MethodTree}
+use Rattle.cjc_world.specs.ClassFile.PoolItem.{PoolItem}
 
 abbrev pub HasFlags : FieldTree → Type 0
 HasFlags f = f.flags < 2 ^ 16

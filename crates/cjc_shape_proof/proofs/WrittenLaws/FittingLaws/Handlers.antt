@@ -9,26 +9,26 @@ use Rattle.std.proofs.lemmas.List.{length-map}
 use Rattle.std.proofs.lemmas.List.Sums.{sum_by-append, sum_by-cons}
 use Rattle.std.proofs.lemmas.Option.{slice_get_past}
 use Rattle.cjc_bytes.specs.declared.fault.MemberId.{MemberId}
-use Rattle.cjc_narrow_proof.specs.JvmSemantics.Linked.{Method}
-use Rattle.cjc_narrow_proof.specs.JvmSemantics.OnePackage.{method_at, method_by, method_in}
-use Rattle.cjc_tokens.specs.ClassFile.Code.{CodeTree}
-use Rattle.cjc_tokens.specs.ClassFile.declared.tree.Catch.{Catch}
-use Rattle.cjc_tokens.specs.ClassFile.declared.tree.ClassTree.{ClassTree}
-use Rattle.cjc_tokens.specs.ClassFile.declared.tree.MethodTree.{MethodTree}
+use Rattle.cjc_classes.specs.JvmSemantics.Linked.{Method}
+use Rattle.cjc_classes.specs.JvmSemantics.OnePackage.{method_at, method_by, method_in}
+use Rattle.cjc_world.specs.ClassFile.Code.{CodeTree}
+use Rattle.cjc_world.specs.ClassFile.declared.tree.Catch.{Catch}
+use Rattle.cjc_world.specs.ClassFile.declared.tree.ClassTree.{ClassTree}
+use Rattle.cjc_world.specs.ClassFile.declared.tree.MethodTree.{MethodTree}
 use Rattle.cjc_components.specs.Methods.{handler_count}
 use Rattle.cjc_components.specs.Package.{LaidMethod}
 use Rattle.cjc_components.specs.Written.{code_at, code_by}
-use Rattle.cjc_components.specs.Layout.Handlers.{by_target, has_range, inserted, table_order}
-use Rattle.cjc_components.specs.Narrow.Rows.Resolved.{method_found, resolution}
-use Rattle.cjc_components.specs.Narrow.Rows.Package.{flags_of, read_of}
-use Rattle.cjc_components.specs.Narrow.Pairs.Roles.{with_pairs}
-use Rattle.cjc_components.specs.Narrow.Written.Rows.{has_rows}
-use Rattle.cjc_components.specs.NCode.Written.{catch_at, catches_at, place_in, reached}
-use Rattle.cjc_components.specs.NCode.declared.narrow.NCatch.{NCatch}
-use Rattle.cjc_components.specs.NCode.declared.narrow.NMethod.{NMethod}
-use Rattle.cjc_vtable.specs.Subset.Limits.{handlers, handlers_of_class}
-use Rattle.cjc_vtable.specs.Subset.Names.{catches_of}
-use Rattle.cjc_narrow_proof.specs.Types.declared.state.State.{State}
+use Rattle.cjc_classes.specs.Layout.Handlers.{by_target, has_range, inserted, table_order}
+use Rattle.cjc_classes.specs.Narrow.Rows.Resolved.{method_found, resolution}
+use Rattle.cjc_classes.specs.Narrow.Rows.Package.{flags_of, read_of}
+use Rattle.cjc_classes.specs.Narrow.Pairs.Roles.{with_pairs}
+use Rattle.cjc_classes.specs.Narrow.Written.Rows.{has_rows}
+use Rattle.cjc_narrow_proof.specs.NCode.Written.{catch_at, catches_at, place_in, reached}
+use Rattle.cjc_narrow_proof.specs.NCode.declared.narrow.NCatch.{NCatch}
+use Rattle.cjc_narrow_proof.specs.NCode.declared.narrow.NMethod.{NMethod}
+use Rattle.cjc_classes.specs.Subset.Limits.{handlers, handlers_of_class}
+use Rattle.cjc_classes.specs.Subset.Names.{catches_of}
+use Rattle.cjc_classes.specs.Types.declared.state.State.{State}
 use Rattle.cjc_world.specs.Added.{added}
 use Rattle.cjc_world.specs.Classes.{Class, all_classes, declared, field_of_class, method_of_class}
 use Rattle.cjc_world.specs.Files.{Files}

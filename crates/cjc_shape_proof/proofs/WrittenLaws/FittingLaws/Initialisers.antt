@@ -8,17 +8,17 @@ use Rattle.std.proofs.lemmas.Option.{slice_get-map}
 use Rattle.cjc_bytes.specs.declared.breaks.BrokenAt.{BrokenAt}
 use Rattle.cjc_bytes.proofs.Lists.{bytes_true}
 use Rattle.cjc_bytes.proofs.Bools.{both_front, both_back}
-use Rattle.cjc_vtable.specs.ClassOrder.Classes.Numbers.{class_count}
-use Rattle.cjc_tokens.specs.ClassFile.Code.{CodeTree}
-use Rattle.cjc_tokens.specs.ClassFile.declared.tree.ClassTree.{ClassTree}
-use Rattle.cjc_tokens.specs.ClassFile.declared.tree.MethodTree.{MethodTree}
-use Rattle.cjc_components.specs.Clinit.Image.{class_where, if_initialiser, initialised}
-use Rattle.cjc_components.specs.Clinit.Initialiser.{is_initialiser}
-use Rattle.cjc_check_proof.specs.LowerWorldProof.Initialisers.Values.{StandOnce}
-use Rattle.cjc_narrow_proof.specs.Bytecode.Decoded.{decoding}
-use Rattle.cjc_narrow_proof.specs.Bytecode.PackageCodes.{all_codes, code_with, of_classes, of_methods, where_code}
-use Rattle.cjc_narrow_proof.specs.Bytecode.declared.insn.JInsn.{JInsn}
-use Rattle.cjc_narrow_proof.specs.Bytecode.declared.method_code.MethodCode.{MethodCode}
+use Rattle.cjc_classes.specs.ClassOrder.Classes.Numbers.{class_count}
+use Rattle.cjc_world.specs.ClassFile.Code.{CodeTree}
+use Rattle.cjc_world.specs.ClassFile.declared.tree.ClassTree.{ClassTree}
+use Rattle.cjc_world.specs.ClassFile.declared.tree.MethodTree.{MethodTree}
+use Rattle.cjc_classes.specs.Clinit.Image.{class_where, if_initialiser, initialised}
+use Rattle.cjc_classes.specs.Clinit.Initialiser.{is_initialiser}
+use Rattle.cjc_check_proof.specs.WorldProof.Initialisers.Values.{StandOnce}
+use Rattle.cjc_components.specs.Bytecode.Decoded.{decoding}
+use Rattle.cjc_components.specs.Bytecode.PackageCodes.{all_codes, code_with, of_classes, of_methods, where_code}
+use Rattle.cjc_components.specs.Bytecode.declared.insn.JInsn.{JInsn}
+use Rattle.cjc_components.specs.Bytecode.declared.method_code.MethodCode.{MethodCode}
 use Rattle.cjc_narrow_proof.proofs.LawsLaws.Own.{first_here, own_kept}
 use Rattle.cjc_world.specs.Classes.{Member, method_of_class}
 use Rattle.cjc_world.specs.Files.{Files}

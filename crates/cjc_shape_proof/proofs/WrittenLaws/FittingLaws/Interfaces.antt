@@ -7,19 +7,19 @@ use Rattle.std.specs.List.{list_any}
 use Rattle.std.specs.Str.{bytes_eq}
 use Rattle.cjc_bytes.specs.AccessFlags.{is_interface}
 use Rattle.cjc_bytes.proofs.Lists.{name_is, bytes_true}
-use Rattle.cjc_tokens.specs.ClassFile.declared.tree.ClassTree.{ClassTree}
-use Rattle.cjc_tokens.specs.ExportFile.declared.tree.ExportClass.{ExportClass}
-use Rattle.cjc_tokens.specs.ExportFile.declared.tree.ExportTree.{ExportTree}
+use Rattle.cjc_world.specs.ClassFile.declared.tree.ClassTree.{ClassTree}
+use Rattle.cjc_world.specs.ExportFile.declared.tree.ExportClass.{ExportClass}
+use Rattle.cjc_world.specs.ExportFile.declared.tree.ExportTree.{ExportTree}
 use Rattle.cjc_components.specs.Class.{interfaces_of}
-use Rattle.cjc_vtable.specs.ClassOrder.Supers.Supers.{interfaces}
-use Rattle.cjc_vtable.specs.Subset.Limits.{listed_above, listed_by_declared, listed_by_imported, listed_names, noted}
-use Rattle.cjc_vtable.specs.Subset.Members.{imports}
+use Rattle.cjc_classes.specs.ClassOrder.Supers.Supers.{interfaces}
+use Rattle.cjc_classes.specs.Subset.Limits.{listed_above, listed_by_declared, listed_by_imported, listed_names, noted}
+use Rattle.cjc_classes.specs.Subset.Members.{imports}
 use Rattle.cjc_narrow_proof.proofs.LawsLaws.Own.{class_by_name}
 use Rattle.cjc_check_proof.proofs.WorldProofRules.{listed_interface}
 use Rattle.cjc_check_proof.proofs.TokenProofClean.{has_named}
 use Rattle.cjc_check_proof.proofs.TokenProofFiled.{import_filed, own_filed, has-front}
-use Rattle.cjc_vtable.specs.ClassOrder.Classes.Numbers.{class_count}
-use Rattle.cjc_check_proof.specs.LowerTokenProof.Tables.Sound.{export_count}
+use Rattle.cjc_classes.specs.ClassOrder.Classes.Numbers.{class_count}
+use Rattle.cjc_check_proof.specs.TokenProof.Tables.Sound.{export_count}
 use Rattle.cjc_world.specs.Rules.{breaks}
 use Rattle.cjc_tokens.specs.Methods.{interfaces_at}
 use Rattle.cjc_world.proofs.UpwardLaws.Lines.{below_subclass}

@@ -6,34 +6,34 @@ use Rattle.std.proofs.lemmas.List.{length-map}
 use Rattle.cjc_bytes.specs.AccessFlags.{is_interface}
 use Rattle.cjc_bytes.specs.Breaks.{Break}
 use Rattle.cjc_bytes.specs.Format.{FileSpells}
-use Rattle.cjc_components.specs.Clinit.Rules.{BreaksImage}
-use Rattle.cjc_narrow_proof.specs.Bytecode.PackageCodes.{all_codes}
+use Rattle.cjc_classes.specs.Clinit.Rules.{BreaksImage}
+use Rattle.cjc_components.specs.Bytecode.PackageCodes.{all_codes}
 use Rattle.cjc_classes.specs.Descriptor.Fits.{AreFit}
 use Rattle.cjc_shape_proof.proofs.WrittenLaws.FittingLaws.Initialisers.{stand_once}
-use Rattle.cjc_tokens.specs.ClassFile.ClassFile.{class_file}
-use Rattle.cjc_narrow_proof.specs.JvmSemantics.OnePackage.{method_at}
-use Rattle.cjc_tokens.specs.ClassFile.declared.tree.ClassTree.{ClassTree}
-use Rattle.cjc_tokens.specs.ClassFile.declared.tree.MethodTree.{MethodTree}
+use Rattle.cjc_world.specs.ClassFile.ClassFile.{class_file}
+use Rattle.cjc_classes.specs.JvmSemantics.OnePackage.{method_at}
+use Rattle.cjc_world.specs.ClassFile.declared.tree.ClassTree.{ClassTree}
+use Rattle.cjc_world.specs.ClassFile.declared.tree.MethodTree.{MethodTree}
 use Rattle.cjc_components.specs.Class.{interfaces_of}
 use Rattle.cjc_components.specs.ExportFile.{export_class, export_of}
 use Rattle.cjc_components.specs.Exports.{exported_classes}
 use Rattle.cjc_components.specs.Limits.{code_breaks, else_of, limit_breaks, size_breaks}
 use Rattle.cjc_components.specs.Methods.{handler_count}
 use Rattle.cjc_components.specs.Package.{LaidMethod, Package, has_applets, world}
-use Rattle.cjc_tokens.specs.ExportFile.Writable.{IsWritable}
-use Rattle.cjc_tokens.specs.ExportFile.declared.tree.ExportTree.{ExportTree}
+use Rattle.cjc_world.specs.ExportFile.Writable.{IsWritable}
+use Rattle.cjc_world.specs.ExportFile.declared.tree.ExportTree.{ExportTree}
 use Rattle.cjc_check_proof.specs.Limits.Premises.{CellsAreDescribed, ClassIsSmall, IsLimited, ListIsShort}
 use Rattle.cjc_check_proof.specs.Limits.Premises.{MethodIsShort}
-use Rattle.cjc_shape.specs.Judge.Rules.{settings_of}
-use Rattle.cjc_shape.specs.Judge.Rules as judging
-use Rattle.cjc_shape.specs.Judge.Spelt.{FileTree, exports_of}
-use Rattle.cjc_shape.specs.Judge.declared.judged.Judged.{Judged}
+use Rattle.cjc_shape.specs.LowerJudge.Rules.{settings_of}
+use Rattle.cjc_shape.specs.LowerJudge.Rules as judging
+use Rattle.cjc_shape.specs.LowerJudge.Spelt.{FileTree, exports_of}
+use Rattle.cjc_shape.specs.LowerJudge.declared.judged.Judged.{Judged}
 use Rattle.cjc_shape.proofs.JudgedLaws.Selected.{judged_writable}
-use Rattle.cjc_components.specs.List.Listed.{ListTree}
+use Rattle.cjc_classes.specs.List.Listed.{ListTree}
 use Rattle.cjc_narrow_proof.specs.Laws.Unbroken.{IsUnbroken}
 use Rattle.cjc_shape.proofs.PreparedLaws.Sound.{are_ready, has_tokens, is_tested, is_unbroken}
 use Rattle.cjc_shape.proofs.PreparedLaws.Sound as Sound
-use Rattle.cjc_check_proof.specs.LowerTokenProof.Tables.Sound.{export_count}
+use Rattle.cjc_check_proof.specs.TokenProof.Tables.Sound.{export_count}
 use Rattle.cjc_tokens.specs.Methods.{is_open_bound}
 use Rattle.cjc_tokens.specs.Rules.{FewExported, token_breaks}
 use Rattle.cjc_vtable.proofs.Filed.{get-has, get-has as has_get}

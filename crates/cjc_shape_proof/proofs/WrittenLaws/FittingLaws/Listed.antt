@@ -7,13 +7,13 @@ use Rattle.std.proofs.lemmas.List.Sums.{sum_by-cons}
 use Rattle.cjc_bytes.specs.Format.{FileSpells}
 use Rattle.cjc_bytes.specs.declared.settings.FileLine.{FileLine}
 use Rattle.cjc_bytes.proofs.Numbers.{one_file}
-use Rattle.cjc_tokens.specs.ClassFile.ClassFile.{class_file}
-use Rattle.cjc_tokens.specs.ClassFile.declared.tree.ClassTree.{ClassTree}
-use Rattle.cjc_shape.specs.Judge.Spelt.{FileTree, IsRead, classes_of, exports_of, of_class, of_export}
-use Rattle.cjc_shape.specs.Judge.Trees.{AllSpelt}
-use Rattle.cjc_components.specs.List.Grammar.{export_count, is_name}
-use Rattle.cjc_components.specs.List.Listed.{ListTree}
-use Rattle.cjc_components.specs.List.Spelling.{Spelt}
+use Rattle.cjc_world.specs.ClassFile.ClassFile.{class_file}
+use Rattle.cjc_world.specs.ClassFile.declared.tree.ClassTree.{ClassTree}
+use Rattle.cjc_shape.specs.LowerJudge.Spelt.{FileTree, IsRead, classes_of, exports_of, of_class, of_export}
+use Rattle.cjc_shape.specs.LowerJudge.Trees.{AllSpelt}
+use Rattle.cjc_classes.specs.List.Grammar.{export_count, is_name}
+use Rattle.cjc_classes.specs.List.Listed.{ListTree}
+use Rattle.cjc_classes.specs.List.Spelling.{Spelt}
 
 -- ---- the list
 

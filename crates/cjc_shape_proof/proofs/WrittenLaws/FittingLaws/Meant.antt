@@ -12,21 +12,21 @@ use Rattle.cjc_bytes.proofs.Gets.{all_at, in_front, get_behind, mapped_at}
 use Rattle.cjc_bytes.proofs.Lists.{bytes_true}
 use Rattle.cjc_bytes.proofs.Bools.{both_front}
 use Rattle.cjc_world.proofs.ClassFileFitting.{spelt_fits}
-use Rattle.cjc_tokens.specs.ClassFile.Fits as fits
-use Rattle.cjc_tokens.specs.ClassFile.declared.tree.ClassTree.{ClassTree}
-use Rattle.cjc_tokens.specs.ClassFile.declared.tree.MethodTree.{MethodTree}
+use Rattle.cjc_world.specs.ClassFile.Fits as fits
+use Rattle.cjc_world.specs.ClassFile.declared.tree.ClassTree.{ClassTree}
+use Rattle.cjc_world.specs.ClassFile.declared.tree.MethodTree.{MethodTree}
 use Rattle.cjc_components.specs.Descriptor.{as_added, method_in, methods_with_added, no_member}
 use Rattle.cjc_components.specs.Package.{Package, world}
-use Rattle.cjc_tokens.specs.ExportFile.Members.{as_desc, is_unbound, not_special}
-use Rattle.cjc_tokens.specs.ExportFile.Writable.{ClassFits, IsText, MethodFits, MethodStands}
-use Rattle.cjc_tokens.specs.ExportFile.declared.tree.ExportClass.{ExportClass}
-use Rattle.cjc_tokens.specs.ExportFile.declared.tree.ExportMethod.{ExportMethod}
-use Rattle.cjc_shape.specs.Judge.Rules.{settings_of}
-use Rattle.cjc_shape.specs.Judge.declared.judged.Judged.{Judged}
-use Rattle.cjc_components.specs.List.Listed.{ListTree}
+use Rattle.cjc_world.specs.ExportFile.Members.{as_desc, is_unbound, not_special}
+use Rattle.cjc_world.specs.ExportFile.Writable.{ClassFits, IsText, MethodFits, MethodStands}
+use Rattle.cjc_world.specs.ExportFile.declared.tree.ExportClass.{ExportClass}
+use Rattle.cjc_world.specs.ExportFile.declared.tree.ExportMethod.{ExportMethod}
+use Rattle.cjc_shape.specs.LowerJudge.Rules.{settings_of}
+use Rattle.cjc_shape.specs.LowerJudge.declared.judged.Judged.{Judged}
+use Rattle.cjc_classes.specs.List.Listed.{ListTree}
 use Rattle.cjc_narrow_proof.proofs.BytecodeMembers.{read_class}
-use Rattle.cjc_narrow_proof.specs.Bytecode.ReadLaws.Members.{IsDescOf}
-use Rattle.cjc_vtable.specs.Subset.Members.{imports}
+use Rattle.cjc_components.specs.Bytecode.ReadLaws.Members.{IsDescOf}
+use Rattle.cjc_classes.specs.Subset.Members.{imports}
 use Rattle.cjc_tokens.specs.Lines.{Declared, Imported, line_in}
 use Rattle.cjc_tokens.specs.Members.{Signature, is_constructor, is_initialiser, is_shown, is_virtual}
 use Rattle.cjc_tokens.specs.Slots.{got, implementing, own}

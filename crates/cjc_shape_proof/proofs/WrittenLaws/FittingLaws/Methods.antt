@@ -15,22 +15,22 @@ use Rattle.cjc_components.specs.Limits.{method_spot, of_methods, order_breaks, s
 use Rattle.cjc_components.specs.Package.{LaidMethod, Package, codes, world}
 use Rattle.cjc_components.specs.Written.{code_at}
 use Rattle.cjc_check_proof.specs.Limits.Premises.{MethodIsShort}
-use Rattle.cjc_shape.specs.Judge.declared.judged.Judged.{Judged}
+use Rattle.cjc_shape.specs.LowerJudge.declared.judged.Judged.{Judged}
 use Rattle.cjc_shape.proofs.JudgedLaws.Selected.{judged_whole}
 use Rattle.cjc_shape.specs.Judged.Tested.{IsTested}
-use Rattle.cjc_components.specs.Layout.Forms.{HasForm}
-use Rattle.cjc_components.specs.Layout.Layouts.{IsWhole}
-use Rattle.cjc_components.specs.Layout.Refusals.{least, overtaking}
-use Rattle.cjc_components.specs.Layout.Sizes.{widest_size}
-use Rattle.cjc_components.specs.List.Listed.{ListTree}
+use Rattle.cjc_classes.specs.Layout.Forms.{HasForm}
+use Rattle.cjc_classes.specs.Layout.Layouts.{IsWhole}
+use Rattle.cjc_classes.specs.Layout.Refusals.{least, overtaking}
+use Rattle.cjc_classes.specs.Layout.Sizes.{widest_size}
+use Rattle.cjc_classes.specs.List.Listed.{ListTree}
 use Rattle.cjc_shape.proofs.MethodsAlike.{IsFromCode, one_selected}
-use Rattle.cjc_shape.specs.Methods.Ready.{IsOwn}
-use Rattle.cjc_shape.specs.Methods.Ready as Ready
-use Rattle.cjc_components.specs.Narrow.Rows.Selected.{near_fields, paired}
-use Rattle.cjc_components.specs.NCode.PoolOrder.{pool_order}
-use Rattle.cjc_components.specs.NCode.Written.{place_in, reached}
-use Rattle.cjc_components.specs.NCode.declared.narrow.NInsn.{NInsn}
-use Rattle.cjc_components.specs.NCode.declared.narrow.NMethod.{NMethod}
+use Rattle.cjc_shape.specs.LowerMethods.Ready.{IsOwn}
+use Rattle.cjc_shape.specs.LowerMethods.Ready as Ready
+use Rattle.cjc_classes.specs.Narrow.Rows.Selected.{near_fields, paired}
+use Rattle.cjc_narrow_proof.specs.NCode.PoolOrder.{pool_order}
+use Rattle.cjc_narrow_proof.specs.NCode.Written.{place_in, reached}
+use Rattle.cjc_narrow_proof.specs.NCode.declared.narrow.NInsn.{NInsn}
+use Rattle.cjc_narrow_proof.specs.NCode.declared.narrow.NMethod.{NMethod}
 use Rattle.cjc_shape.proofs.PreparedLaws.Sound.{are_ready, is_tested}
 use Rattle.cjc_shape.proofs.PreparedLaws.Sound as Sound
 use Rattle.cjc_shape.specs.Prepared.{IsSound}
@@ -44,7 +44,7 @@ use Rattle.cjc_world.specs.Classes.{Class, all_classes, class_at}
 use Rattle.cjc_world.specs.Files.{Files}
 use Rattle.cjc_world.specs.Order.{method_order}
 use Rattle.cjc_world.specs.declared.found.Found.{Found}
-use Rattle.cjc_components.specs.Narrow.Written.Rows.{has_rows, rows_by}
+use Rattle.cjc_classes.specs.Narrow.Written.Rows.{has_rows, rows_by}
 
 -- ---- the package
 

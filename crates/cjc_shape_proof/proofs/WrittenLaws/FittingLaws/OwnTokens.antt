@@ -11,11 +11,11 @@ use Rattle.std.proofs.lemmas.Bool.{or_parts}
 use Rattle.cjc_bytes.specs.AccessFlags.{is_interface, is_private, is_protected, is_public, is_static}
 use Rattle.cjc_bytes.proofs.Bools.{or_true}
 use Rattle.cjc_bytes.proofs.Gets.{in_front, get_behind}
-use Rattle.cjc_tokens.specs.ClassFile.declared.tree.ClassTree.{ClassTree}
+use Rattle.cjc_world.specs.ClassFile.declared.tree.ClassTree.{ClassTree}
 use Rattle.cjc_components.specs.ExportFile.{is_listed}
-use Rattle.cjc_tokens.specs.ExportFile.Members.{is_unbound}
+use Rattle.cjc_world.specs.ExportFile.Members.{is_unbound}
 use Rattle.cjc_narrow_proof.proofs.LawsLaws.Own.{first_here}
-use Rattle.cjc_vtable.specs.Subset.Flags.{has_two_accesses}
+use Rattle.cjc_classes.specs.Subset.Flags.{has_two_accesses}
 use Rattle.cjc_tokens.proofs.Facts.{has-got_none, has-own_none, same-refl}
 use Rattle.cjc_tokens.proofs.Means.{kept-at}
 use Rattle.cjc_tokens.specs.Fields.{field_tokens}

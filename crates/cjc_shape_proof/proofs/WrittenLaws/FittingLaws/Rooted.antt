@@ -4,15 +4,15 @@ use Rattle.std.proofs.Common.{⊎_elim, Some, None}
 use Rattle.std.specs.Prelude.{◌⊎◌, ◌||◌, slice_get, if◌then◌else◌}
 use Rattle.std.specs.Str.{bytes_eq}
 use Rattle.std.proofs.lemmas.Bool.{or_left, or_right}
-use Rattle.cjc_tokens.specs.ClassFile.declared.tree.ClassTree.{ClassTree}
+use Rattle.cjc_world.specs.ClassFile.declared.tree.ClassTree.{ClassTree}
 use Rattle.cjc_world.proofs.ExportFileRooted.{has_root}
-use Rattle.cjc_tokens.specs.ExportFile.Root.{object}
-use Rattle.cjc_tokens.specs.ExportFile.Supers.{is_one_of}
-use Rattle.cjc_tokens.specs.ExportFile.Writable.{IsWritable}
-use Rattle.cjc_tokens.specs.ExportFile.declared.tree.ExportTree.{ExportTree}
+use Rattle.cjc_world.specs.ExportFile.Root.{object}
+use Rattle.cjc_world.specs.ExportFile.Supers.{is_one_of}
+use Rattle.cjc_world.specs.ExportFile.Writable.{IsWritable}
+use Rattle.cjc_world.specs.ExportFile.declared.tree.ExportTree.{ExportTree}
 use Rattle.cjc_narrow_proof.proofs.LawsLaws.Own.{own_kept}
-use Rattle.cjc_vtable.specs.ClassOrder.Classes.Numbers.{class_count}
-use Rattle.cjc_vtable.specs.ClassOrder.Supers.Supers.{each_once, names_upwards, superclasses}
+use Rattle.cjc_classes.specs.ClassOrder.Classes.Numbers.{class_count}
+use Rattle.cjc_classes.specs.ClassOrder.Supers.Supers.{each_once, names_upwards, superclasses}
 use Rattle.cjc_check_proof.proofs.TokenProofAbove.{class_there}
 use Rattle.cjc_check_proof.proofs.TokenProofLists.{supers_there}
 use Rattle.cjc_check_proof.proofs.TokenProofRooted.{import_root}

@@ -8,15 +8,15 @@ use Rattle.cjc_bytes.specs.Order.{file_of}
 use Rattle.cjc_bytes.specs.declared.settings.Settings.{Settings}
 use Rattle.cjc_bytes.proofs.BrokenRules.{not_broken, each_at}
 use Rattle.cjc_bytes.proofs.Lists.{none_left, none_right}
-use Rattle.cjc_tokens.specs.ClassFile.declared.tree.ClassTree.{ClassTree}
-use Rattle.cjc_tokens.specs.ClassFile.declared.tree.MethodTree.{MethodTree}
-use Rattle.cjc_narrow_proof.specs.Bytecode.declared.method_code.MethodCode.{MethodCode}
-use Rattle.cjc_vtable.specs.Subset.Applets.{has_unfit_applets}
-use Rattle.cjc_vtable.specs.Subset.Checks.{check_breaks, class_breaks, code_breaks, list_breaks, method_breaks}
-use Rattle.cjc_vtable.specs.Subset.Checks.{own_breaks}
-use Rattle.cjc_vtable.specs.Subset.Flags.{is_unfit_method}
-use Rattle.cjc_vtable.specs.Subset.Limits.{handlers_of_class, has_many_handlers, has_many_interfaces, listed_names}
-use Rattle.cjc_vtable.specs.Subset.Limits.{most_interfaces, noted}
+use Rattle.cjc_world.specs.ClassFile.declared.tree.ClassTree.{ClassTree}
+use Rattle.cjc_world.specs.ClassFile.declared.tree.MethodTree.{MethodTree}
+use Rattle.cjc_components.specs.Bytecode.declared.method_code.MethodCode.{MethodCode}
+use Rattle.cjc_classes.specs.Subset.Applets.{has_unfit_applets}
+use Rattle.cjc_classes.specs.Subset.Checks.{check_breaks, class_breaks, code_breaks, list_breaks, method_breaks}
+use Rattle.cjc_classes.specs.Subset.Checks.{own_breaks}
+use Rattle.cjc_classes.specs.Subset.Flags.{is_unfit_method}
+use Rattle.cjc_classes.specs.Subset.Limits.{handlers_of_class, has_many_handlers, has_many_interfaces, listed_names}
+use Rattle.cjc_classes.specs.Subset.Limits.{most_interfaces, noted}
 use Rattle.cjc_world.specs.Classes.{all_classes}
 use Rattle.cjc_world.specs.Files.{Files}
 

@@ -6,8 +6,8 @@ use Rattle.std.proofs.lemmas.Bool.Decides.{nat_tests}
 use Rattle.std.proofs.lemmas.Bool.{ltb-false}
 use Rattle.cjc_bytes.specs.Breaks.{at}
 use Rattle.cjc_bytes.proofs.Bools.{or_left}
-use Rattle.cjc_components.specs.CapRead.declared.tree.CapTree.{CapTree}
-use Rattle.cjc_components.specs.CapWrite.Files.{ends_too_far, infos_of, is_too_large, limit_of}
+use Rattle.cjc_check_proof.specs.CapRead.declared.tree.CapTree.{CapTree}
+use Rattle.cjc_classes.specs.CapWrite.Files.{ends_too_far, infos_of, is_too_large, limit_of}
 use Rattle.cjc_components.specs.Components.{components_of}
 use Rattle.cjc_components.specs.Limits.{form_breaks, has_many_entries, layout_breaks, of_methods, size_breaks}
 use Rattle.cjc_components.specs.Limits.{spot_of_list, widest_method}

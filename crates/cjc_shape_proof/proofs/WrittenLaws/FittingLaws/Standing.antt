@@ -10,9 +10,9 @@ use Rattle.cjc_components.specs.ExportFile.{added_from, exposed_entry, inherited
 use Rattle.cjc_components.specs.ExportFile.{method_entry, method_meant, methods_from}
 use Rattle.cjc_components.specs.Names.{member_token}
 use Rattle.cjc_components.specs.Package.{Package}
-use Rattle.cjc_tokens.specs.ExportFile.Members.{is_unbound, method_token_wrong, same_bool}
-use Rattle.cjc_tokens.specs.ExportFile.Writable.{EachAfter, MethodFits, MethodStands}
-use Rattle.cjc_tokens.specs.ExportFile.declared.tree.ExportMethod.{ExportMethod}
+use Rattle.cjc_world.specs.ExportFile.Members.{is_unbound, method_token_wrong, same_bool}
+use Rattle.cjc_world.specs.ExportFile.Writable.{EachAfter, MethodFits, MethodStands}
+use Rattle.cjc_world.specs.ExportFile.declared.tree.ExportMethod.{ExportMethod}
 use Rattle.cjc_tokens.specs.Members.{is_exposed}
 use Rattle.cjc_vtable.proofs.Filed.{Has, at_front, behind, has-either}
 use Rattle.cjc_vtable.specs.Tables.{is_own}

@@ -11,19 +11,19 @@ use Rattle.cjc_bytes.specs.Order.{file_of}
 use Rattle.cjc_bytes.specs.declared.settings.FileLine.{FileLine}
 use Rattle.cjc_bytes.proofs.Lists.{none_left, none_right}
 use Rattle.cjc_bytes.proofs.Bools.{or_left, or_right}
-use Rattle.cjc_vtable.specs.ClassOrder.Classes.Numbers.{class_count}
-use Rattle.cjc_tokens.specs.ClassFile.declared.tree.ClassTree.{ClassTree}
+use Rattle.cjc_classes.specs.ClassOrder.Classes.Numbers.{class_count}
+use Rattle.cjc_world.specs.ClassFile.declared.tree.ClassTree.{ClassTree}
 use Rattle.cjc_components.specs.Class.{interfaces_of}
-use Rattle.cjc_tokens.specs.ExportFile.ExportFile.{method_count}
-use Rattle.cjc_tokens.specs.ExportFile.Members.{is_unbound, method_token_taken, method_token_wrong}
-use Rattle.cjc_tokens.specs.ExportFile.Writable.{ClassFits, EachAfter, IsWritable, MethodStands}
-use Rattle.cjc_tokens.specs.ExportFile.declared.tree.ExportClass.{ExportClass}
-use Rattle.cjc_tokens.specs.ExportFile.declared.tree.ExportMethod.{ExportMethod}
-use Rattle.cjc_tokens.specs.ExportFile.declared.tree.ExportTree.{ExportTree}
+use Rattle.cjc_world.specs.ExportFile.ExportFile.{method_count}
+use Rattle.cjc_world.specs.ExportFile.Members.{is_unbound, method_token_taken, method_token_wrong}
+use Rattle.cjc_world.specs.ExportFile.Writable.{ClassFits, EachAfter, IsWritable, MethodStands}
+use Rattle.cjc_world.specs.ExportFile.declared.tree.ExportClass.{ExportClass}
+use Rattle.cjc_world.specs.ExportFile.declared.tree.ExportMethod.{ExportMethod}
+use Rattle.cjc_world.specs.ExportFile.declared.tree.ExportTree.{ExportTree}
 use Rattle.cjc_narrow_proof.proofs.LawsLaws.Own.{class_by_name}
 use Rattle.cjc_check_proof.proofs.WorldProofRules.{listed_abroad, super_class}
-use Rattle.cjc_vtable.specs.Subset.Members.{imports}
-use Rattle.cjc_check_proof.specs.LowerTokenProof.Tables.Sound.{export_count}
+use Rattle.cjc_classes.specs.Subset.Members.{imports}
+use Rattle.cjc_check_proof.specs.TokenProof.Tables.Sound.{export_count}
 use Rattle.cjc_tokens.specs.Lines.{line_at}
 use Rattle.cjc_tokens.specs.Members.{Signature, is_constructor, is_initialiser, is_virtual, signature_of}
 use Rattle.cjc_tokens.specs.Methods.{interface_methods, is_open_bound}

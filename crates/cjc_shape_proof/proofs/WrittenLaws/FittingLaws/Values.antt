@@ -17,30 +17,30 @@ use Rattle.cjc_bytes.proofs.Lists.{bytes_true}
 use Rattle.cjc_bytes.proofs.Options.{option_taken}
 use Rattle.cjc_bytes.proofs.Quantified.{all_both}
 use Rattle.cjc_bytes.specs.declared.descriptor.Kind.TheVariants as kinds
-use Rattle.cjc_tokens.specs.ClassFile.declared.tree.ClassTree.{ClassTree}
-use Rattle.cjc_tokens.specs.ClassFile.declared.tree.FieldTree.{FieldTree}
-use Rattle.cjc_narrow_proof.specs.Bytecode.declared.insn.JOp.{JOp}
-use Rattle.cjc_narrow_proof.specs.Bytecode.declared.method_code.MethodCode.{MethodCode}
+use Rattle.cjc_world.specs.ClassFile.declared.tree.ClassTree.{ClassTree}
+use Rattle.cjc_world.specs.ClassFile.declared.tree.FieldTree.{FieldTree}
+use Rattle.cjc_components.specs.Bytecode.declared.insn.JOp.{JOp}
+use Rattle.cjc_components.specs.Bytecode.declared.method_code.MethodCode.{MethodCode}
 use Rattle.cjc_components.proofs.ClinitCells.{cell_fits}
-use Rattle.cjc_components.specs.Clinit.Fields.{Contents, ANull, ANumber, AnArray, fits, fits_kind, has_unfit_value}
-use Rattle.cjc_components.specs.Clinit.Fields.{held_by}
-use Rattle.cjc_components.specs.Clinit.Fields.{is_cell, is_reference, number_kind, takes, value_fits}
-use Rattle.cjc_components.specs.Clinit.Image as Image
-use Rattle.cjc_components.specs.Clinit.Image.{AreInitialised, IsImage, empty, field_id, fields_in, held_in, initialised}
-use Rattle.cjc_components.specs.Clinit.Image.{of_classes, of_fields, of_start, start_by, start_of, unput_start}
-use Rattle.cjc_components.specs.Clinit.Image.{value_or_zero}
-use Rattle.cjc_components.specs.Clinit.Initialiser as Initialiser
-use Rattle.cjc_components.specs.Clinit.Initialiser.{Initialises, Put, is_initialiser, nothing_in, open_place}
-use Rattle.cjc_components.specs.Clinit.Rules.{BreaksImage, is_wrong_class, of_class}
-use Rattle.cjc_components.specs.Clinit.declared.stage.Held.{Held}
-use Rattle.cjc_components.specs.Clinit.declared.stage.Held.TheVariants as held
-use Rattle.cjc_components.specs.Clinit.declared.stage.Start.TheVariants as begun
+use Rattle.cjc_classes.specs.Clinit.Fields.{Contents, ANull, ANumber, AnArray, fits, fits_kind, has_unfit_value}
+use Rattle.cjc_classes.specs.Clinit.Fields.{held_by}
+use Rattle.cjc_classes.specs.Clinit.Fields.{is_cell, is_reference, number_kind, takes, value_fits}
+use Rattle.cjc_classes.specs.Clinit.Image as Image
+use Rattle.cjc_classes.specs.Clinit.Image.{AreInitialised, IsImage, empty, field_id, fields_in, held_in, initialised}
+use Rattle.cjc_classes.specs.Clinit.Image.{of_classes, of_fields, of_start, start_by, start_of, unput_start}
+use Rattle.cjc_classes.specs.Clinit.Image.{value_or_zero}
+use Rattle.cjc_classes.specs.Clinit.Initialiser as Initialiser
+use Rattle.cjc_classes.specs.Clinit.Initialiser.{Initialises, Put, is_initialiser, nothing_in, open_place}
+use Rattle.cjc_classes.specs.Clinit.Rules.{BreaksImage, is_wrong_class, of_class}
+use Rattle.cjc_classes.specs.Clinit.declared.stage.Held.{Held}
+use Rattle.cjc_classes.specs.Clinit.declared.stage.Held.TheVariants as held
+use Rattle.cjc_classes.specs.Clinit.declared.stage.Start.TheVariants as begun
 use Rattle.cjc_check_proof.proofs.WorldProofPackages.{class-there}
 use Rattle.cjc_check_proof.proofs.WorldProofPlaces.{place-field}
 use Rattle.cjc_check_proof.proofs.WorldProofValues.{nothing-only}
 use Rattle.cjc_classes.specs.Descriptor.Fits.{FitsValue, is_number_of}
-use Rattle.cjc_components.specs.Script.Sorts.{field_sort}
-use Rattle.cjc_vtable.specs.Subset.Places.{at_class}
+use Rattle.cjc_narrow_proof.specs.Script.Sorts.{field_sort}
+use Rattle.cjc_classes.specs.Subset.Places.{at_class}
 use Rattle.cjc_tokens.proofs.Walks.{slice_get-set}
 use Rattle.cjc_world.specs.Files.{Files}
 use Rattle.cjc_world.specs.declared.image.ArrayCell.{ArrayCell}

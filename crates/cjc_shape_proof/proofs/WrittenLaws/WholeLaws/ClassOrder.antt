@@ -1,11 +1,11 @@
 -- The classes of a converted package in the order in which Class has them, and its methods in the order of Method.
 use Rattle.std.proofs.Common.{◌≡◌, ℕ, sym, subst, ◌∙◌, false, List, map}
 use Rattle.std.specs.Prelude.{All, Some}
-use Rattle.cjc_vtable.specs.ClassOrder.Classes.Numbers.{IsOfKind, declared_at}
+use Rattle.cjc_classes.specs.ClassOrder.Classes.Numbers.{IsOfKind, declared_at}
 use Rattle.cjc_components.specs.Package.{Package, world}
-use Rattle.cjc_shape.specs.Judge.declared.judged.Judged.{Judged}
-use Rattle.cjc_components.specs.List.Listed.{ListTree}
-use Rattle.cjc_shape.specs.Methods.Ready.{AreOrdered}
+use Rattle.cjc_shape.specs.LowerJudge.declared.judged.Judged.{Judged}
+use Rattle.cjc_classes.specs.List.Listed.{ListTree}
+use Rattle.cjc_shape.specs.LowerMethods.Ready.{AreOrdered}
 use Rattle.cjc_shape.proofs.PreparedLaws.Parts.{ordered}
 use Rattle.cjc_shape.specs.Prepared.{IsSound}
 use Rattle.cjc_shape.proofs.WholeLaws.Drafts.{same_spelt}

@@ -13,19 +13,19 @@ use Rattle.std.proofs.lemmas.Slice.Eq.{bytes_eq-Decides}
 use Rattle.cjc_bytes.specs.AccessFlags.{is_interface}
 use Rattle.cjc_bytes.specs.declared.fault.MemberId.{MemberId}
 use Rattle.cjc_bytes.proofs.Gets.{in_front, get_behind, at_end}
-use Rattle.cjc_tokens.specs.ClassFile.declared.tree.ClassTree.{ClassTree}
-use Rattle.cjc_tokens.specs.ExportFile.Members.{interface_token_taken, not_special}
-use Rattle.cjc_tokens.specs.ExportFile.Members as export_members
-use Rattle.cjc_tokens.specs.ExportFile.Writable.{ClassFits, EachAfter, IsWritable, MethodStands}
-use Rattle.cjc_tokens.specs.ExportFile.declared.tree.ExportClass.{ExportClass}
-use Rattle.cjc_tokens.specs.ExportFile.declared.tree.ExportMethod.{ExportMethod}
-use Rattle.cjc_tokens.specs.ExportFile.declared.tree.ExportTree.{ExportTree}
+use Rattle.cjc_world.specs.ClassFile.declared.tree.ClassTree.{ClassTree}
+use Rattle.cjc_world.specs.ExportFile.Members.{interface_token_taken, not_special}
+use Rattle.cjc_world.specs.ExportFile.Members as export_members
+use Rattle.cjc_world.specs.ExportFile.Writable.{ClassFits, EachAfter, IsWritable, MethodStands}
+use Rattle.cjc_world.specs.ExportFile.declared.tree.ExportClass.{ExportClass}
+use Rattle.cjc_world.specs.ExportFile.declared.tree.ExportMethod.{ExportMethod}
+use Rattle.cjc_world.specs.ExportFile.declared.tree.ExportTree.{ExportTree}
 use Rattle.cjc_shape.proofs.JudgedLaws.Called.{IsDeclared}
 use Rattle.cjc_shape.proofs.JudgedLaws.Owners.{IsOwn}
 use Rattle.cjc_shape.proofs.JudgedLaws.Tokens.{listed_at, import_token}
 use Rattle.cjc_narrow_proof.proofs.LawsLaws.Own.{first_here}
-use Rattle.cjc_check_proof.specs.Pool.Pool.{token_of}
-use Rattle.cjc_vtable.specs.Subset.Members.{imports}
+use Rattle.cjc_shape.specs.Pool.Pool.{token_of}
+use Rattle.cjc_classes.specs.Subset.Members.{imports}
 use Rattle.cjc_tokens.proofs.Means.{kept-at}
 use Rattle.cjc_tokens.specs.Fields.{field_tokens}
 use Rattle.cjc_tokens.specs.Lines.{line_at}

@@ -16,25 +16,25 @@ use Rattle.cjc_components.specs.Names.{names, token_in_interface}
 use Rattle.cjc_components.specs.Package.{LaidMethod, Package, codes, has_applets, tokens}
 use Rattle.cjc_components.specs.Package as packages
 use Rattle.cjc_components.specs.Written.{code_at}
-use Rattle.cjc_components.specs.Emit.Emitted.{IsEmittable, IsNamedBy}
-use Rattle.cjc_shape.specs.Judge.Rules as judge_rules
-use Rattle.cjc_shape.specs.Judge.declared.judged.Judged.{Judged}
+use Rattle.cjc_classes.specs.Emit.Emitted.{IsEmittable, IsNamedBy}
+use Rattle.cjc_shape.specs.LowerJudge.Rules as judge_rules
+use Rattle.cjc_shape.specs.LowerJudge.declared.judged.Judged.{Judged}
 use Rattle.cjc_shape.proofs.JudgedLaws.Emittable.{calls_are_declared}
 use Rattle.cjc_shape.proofs.JudgedLaws.Selected.{judged_writable}
 use Rattle.cjc_shape.specs.Judged.Pooled.{ArePooled, IsSelected}
 use Rattle.cjc_shape.specs.Judged.Tested.{IsTested}
-use Rattle.cjc_components.specs.Layout.Layouts.{IsLayout}
-use Rattle.cjc_components.specs.Layout.declared.layout.Layout.{Layout}
-use Rattle.cjc_components.specs.List.Listed.{ListTree}
-use Rattle.cjc_components.specs.NCode.Lowering.Naming.{Naming}
+use Rattle.cjc_classes.specs.Layout.Layouts.{IsLayout}
+use Rattle.cjc_classes.specs.Layout.declared.layout.Layout.{Layout}
+use Rattle.cjc_classes.specs.List.Listed.{ListTree}
+use Rattle.cjc_narrow_proof.specs.NCode.Lowering.Naming.{Naming}
 use Rattle.cjc_shape.proofs.MethodsAlike.{one_selected}
-use Rattle.cjc_shape.specs.Methods.Ready.{IsOwn}
-use Rattle.cjc_components.specs.Narrow.Rows.Selected.{near_fields}
-use Rattle.cjc_components.specs.NCode.PoolOrder.{pool_order, same_key}
-use Rattle.cjc_components.specs.NCode.declared.narrow.NInsn.{NInsn}
-use Rattle.cjc_components.specs.NCode.declared.narrow.NMethod.{NMethod}
-use Rattle.cjc_components.specs.NCode.declared.narrow.PoolKey.{PoolKey}
-use Rattle.cjc_check_proof.specs.Pool.Pool.{IsPool, PoolView, is_called, token_in, token_of}
+use Rattle.cjc_shape.specs.LowerMethods.Ready.{IsOwn}
+use Rattle.cjc_classes.specs.Narrow.Rows.Selected.{near_fields}
+use Rattle.cjc_narrow_proof.specs.NCode.PoolOrder.{pool_order, same_key}
+use Rattle.cjc_narrow_proof.specs.NCode.declared.narrow.NInsn.{NInsn}
+use Rattle.cjc_narrow_proof.specs.NCode.declared.narrow.NMethod.{NMethod}
+use Rattle.cjc_narrow_proof.specs.NCode.declared.narrow.PoolKey.{PoolKey}
+use Rattle.cjc_shape.specs.Pool.Pool.{IsPool, PoolView, is_called, token_in, token_of}
 use Rattle.cjc_shape.proofs.PreparedLaws.Sound.{are_ready, has_tokens, is_tested, listed}
 use Rattle.cjc_shape.proofs.PreparedLaws.Sound.{world_unbroken}
 use Rattle.cjc_shape.specs.Prepared.{IsSound}

@@ -1,4 +1,4 @@
-use Rattle.cjc_shape.specs.Judge.Rules.{settings_of}
+use Rattle.cjc_shape.specs.LowerJudge.Rules.{settings_of}
 use Rattle.cjc_shape_proof.proofs.WrittenLaws.Files.{is_kept}
 use Rattle.cjc_shape_proof.proofs.WrittenLaws.Worlds.{no_static_methods, own_solid, own_subtypes, own_tokens}
 use Rattle.cjc_shape_proof.proofs.written.converted_classes_keep_rules.Goals as goal

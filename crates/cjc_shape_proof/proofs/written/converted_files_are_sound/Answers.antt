@@ -1,4 +1,4 @@
-use Rattle.cjc_shape.specs.Judge.Rules.{settings_of}
+use Rattle.cjc_shape.specs.LowerJudge.Rules.{settings_of}
 use Rattle.cjc_shape_proof.proofs.WrittenLaws.Files.{field_descs, files_sound, own_image, own_once, own_unbroken}
 use Rattle.cjc_shape_proof.proofs.WrittenLaws.Files.{read_files}
 use Rattle.cjc_shape_proof.proofs.written.converted_files_are_sound.Goals as goal

@@ -1,11 +1,11 @@
 use Rattle.std.specs.Prelude.{ℕ, List}
-use Rattle.cjc_narrow_proof.specs.Bytecode.PackageCodes.{all_codes}
+use Rattle.cjc_components.specs.Bytecode.PackageCodes.{all_codes}
 use Rattle.cjc_check_proof.specs.Made.{AllAreMade}
 use Rattle.cjc_components.specs.Names.{names}
 use Rattle.cjc_components.specs.Package.{Package, codes, pool, tokens}
-use Rattle.cjc_shape.specs.Judge.declared.judged.Judged.{Judged}
-use Rattle.cjc_components.specs.List.Listed.{ListTree}
-use Rattle.cjc_components.specs.Narrow.Rows.Selected.{near_fields}
+use Rattle.cjc_shape.specs.LowerJudge.declared.judged.Judged.{Judged}
+use Rattle.cjc_classes.specs.List.Listed.{ListTree}
+use Rattle.cjc_classes.specs.Narrow.Rows.Selected.{near_fields}
 use Rattle.cjc_shape_proof.specs.Written.Converted.{IsConverted}
 use Rattle.cjc_shape_proof.proofs.WrittenLaws.Files.{files_sound}
 use Rattle.cjc_shape_proof.proofs.WrittenLaws.Made.{all_made, is_small}

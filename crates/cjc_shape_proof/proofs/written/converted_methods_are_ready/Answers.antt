@@ -1,11 +1,11 @@
 use Rattle.std.specs.Prelude.{option_map}
 use Rattle.std.proofs.Common.{ap, subst, ◌∙◌}
-use Rattle.cjc_components.specs.Emit.Emitted.{CanBeWritten, placed_at}
+use Rattle.cjc_classes.specs.Emit.Emitted.{CanBeWritten, placed_at}
 use Rattle.std.proofs.lemmas.Option.{slice_get-map}
 use Rattle.cjc_components.specs.Package.{LaidMethod, codes, has_applets, tokens}
 use Rattle.cjc_shape.proofs.PreparedLaws.Sound.{is_tested}
 use Rattle.cjc_shape.proofs.WholeLaws.Second.{forms_of}
-use Rattle.cjc_check_proof.specs.LowerTokenProof.Tables.Loading.{naming}
+use Rattle.cjc_check_proof.specs.TokenProof.Tables.Loading.{naming}
 use Rattle.cjc_shape_proof.proofs.WrittenLaws.WholeLaws.Emittable.{pooled}
 use Rattle.cjc_shape_proof.proofs.WrittenLaws.Made.{whole_at, written_at}
 use Rattle.cjc_shape_proof.proofs.WrittenLaws.Ready.{one_ready}

@@ -1,16 +1,16 @@
 use Rattle.std.proofs.Common.{subst, sym, ◌∙◌}
 use Rattle.std.specs.Prelude.{◌≢◌, ℕ}
-use Rattle.cjc_check_proof.specs.LowerTokenProof.ByToken.Classes.{memories, tests}
-use Rattle.cjc_check_proof.specs.LowerTokenProof.Calls.Reaching as reaching
-use Rattle.cjc_narrow_proof.specs.Bytecode.PackageCodes.{all_codes}
+use Rattle.cjc_check_proof.specs.TokenProof.ByToken.Classes.{memories, tests}
+use Rattle.cjc_check_proof.specs.TokenProof.Calls.Reaching as reaching
+use Rattle.cjc_components.specs.Bytecode.PackageCodes.{all_codes}
 use Rattle.cjc_components.specs.Methods.{placed_methods}
-use Rattle.cjc_shape.specs.Judge.Rules.{settings_of}
-use Rattle.cjc_components.specs.Narrow.Rows.Package.{named}
-use Rattle.cjc_components.specs.Script.declared.report.Outcome.TheVariants.{Stuck}
-use Rattle.cjc_components.specs.Script.declared.report.Report.{Report}
-use Rattle.cjc_check_proof.specs.LowerTokenProof.Tables.Known.{known_names}
-use Rattle.cjc_check_proof.specs.LowerTokenProof.Tables.Loading.{naming, part}
-use Rattle.cjc_check_proof.specs.LowerTokenProof.WrittenCalls.Standing.{place}
+use Rattle.cjc_shape.specs.LowerJudge.Rules.{settings_of}
+use Rattle.cjc_classes.specs.Narrow.Rows.Package.{named}
+use Rattle.cjc_narrow_proof.specs.Script.declared.report.Outcome.TheVariants.{Stuck}
+use Rattle.cjc_narrow_proof.specs.Script.declared.report.Report.{Report}
+use Rattle.cjc_check_proof.specs.TokenProof.Tables.Known.{known_names}
+use Rattle.cjc_check_proof.specs.TokenProof.Tables.Loading.{naming, part}
+use Rattle.cjc_check_proof.specs.TokenProof.WrittenCalls.Standing.{place}
 use Rattle.cjc_shape_proof.specs.Written.Joined.{placed_code}
 use Rattle.cjc_shape_proof.proofs.WrittenLaws.Files.{field_descs, files_sound, is_kept, own_image, own_methods}
 use Rattle.cjc_shape_proof.proofs.WrittenLaws.Files.{own_once, own_unbroken}

@@ -1,7 +1,7 @@
 use Rattle.std.proofs.Common.{ℕ, List, length, ap, ◌∙◌}
 use Rattle.std.specs.Prelude.{nat_lt}
 use Rattle.cjc_bytes.specs.declared.settings.AppletLine.{AppletLine}
-use Rattle.cjc_code.specs.LowerClassFile.declared.tree.ClassTree.{ClassTree}
+use Rattle.cjc_code.specs.ClassFile.declared.tree.ClassTree.{ClassTree}
 use Rattle.cjc_world.specs.Classes.{all_classes}
 use Rattle.cjc_subset.specs.Applets.{has_unfit_applets}
 use Rattle.cjc_subset.specs.Checks.{list_breaks}

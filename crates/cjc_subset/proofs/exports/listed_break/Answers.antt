@@ -1,6 +1,6 @@
 use Rattle.std.proofs.Common.{◌+◌, ℕ, List, ap, ◌∙◌}
 use Rattle.std.specs.Prelude.{option_map}
-use Rattle.cjc_world.specs.LowerExportFile.declared.tree.ExportClass.{ExportClass}
+use Rattle.cjc_world.specs.ExportFile.declared.tree.ExportClass.{ExportClass}
 use Rattle.cjc_bytes.specs.Breaks.{class_spot}
 use Rattle.cjc_bytes.specs.Order.{FilePlace}
 use Rattle.cjc_bytes.specs.Told.{break_of, file_place_of}

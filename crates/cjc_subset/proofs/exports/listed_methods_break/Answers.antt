@@ -1,6 +1,6 @@
 use Rattle.std.proofs.Common.{◌<◌, ◌≤◌, List, length, get_or, ap, subst, ◌∙◌}
 use Rattle.std.specs.Prelude.{option_map}
-use Rattle.cjc_world.specs.LowerExportFile.declared.tree.ExportMethod.{ExportMethod}
+use Rattle.cjc_world.specs.ExportFile.declared.tree.ExportMethod.{ExportMethod}
 use Rattle.cjc_bytes.specs.Told.{break_of}
 use Rattle.cjc_subset.specs.Exports.{listed_method_breaks}
 use Rattle.cjc_bytes.proofs.Firsts.{each_none, each_more, each_all}

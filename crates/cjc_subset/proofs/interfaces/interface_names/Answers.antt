@@ -1,7 +1,7 @@
 use Rattle.std.proofs.Common.{List, ℕ, sym, ap, ◌∙◌, [], ◌++◌}
 use Rattle.std.specs.List.{flat_map}
-use Rattle.cjc_code.specs.LowerClassFile.declared.tree.ClassTree.{ClassTree}
-use Rattle.cjc_world.specs.LowerExportFile.declared.tree.ExportTree.{ExportTree}
+use Rattle.cjc_code.specs.ClassFile.declared.tree.ClassTree.{ClassTree}
+use Rattle.cjc_world.specs.ExportFile.declared.tree.ExportTree.{ExportTree}
 use Rattle.cjc_world.specs.Classes.{all_classes}
 use Rattle.cjc_subset.specs.Limits.{listed_by_declared, listed_by_imported, listed_names, noted}
 use Rattle.cjc_subset.proofs.Noted.{noted_append}

@@ -1,6 +1,6 @@
 use Rattle.std.proofs.Common.{◌+◌, List, ℕ, drop, sym, ap, ◌∙◌}
 use Rattle.std.specs.List.{flat_map}
-use Rattle.cjc_code.specs.LowerClassFile.declared.tree.ClassTree.{ClassTree}
+use Rattle.cjc_code.specs.ClassFile.declared.tree.ClassTree.{ClassTree}
 use Rattle.cjc_world.specs.Classes.{all_classes, declared}
 use Rattle.cjc_subset.specs.Limits.{listed_above, noted}
 use Rattle.cjc_subset.proofs.Noted.{list_on, lists_done}

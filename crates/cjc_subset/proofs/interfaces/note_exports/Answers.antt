@@ -1,7 +1,7 @@
 use Rattle.std.proofs.Common.{◌+◌, List, ℕ, drop, sym, ap, ◌∙◌}
 use Rattle.std.specs.List.{flat_map}
-use Rattle.cjc_world.specs.LowerExportFile.declared.tree.ExportClass.{ExportClass}
-use Rattle.cjc_world.specs.LowerExportFile.declared.tree.ExportTree.{ExportTree}
+use Rattle.cjc_world.specs.ExportFile.declared.tree.ExportClass.{ExportClass}
+use Rattle.cjc_world.specs.ExportFile.declared.tree.ExportTree.{ExportTree}
 use Rattle.cjc_world.specs.Classes.{all_classes}
 use Rattle.cjc_subset.specs.Limits.{listed_by_imported, noted}
 use Rattle.cjc_subset.proofs.Noted.{list_on, lists_done}

@@ -1,5 +1,5 @@
 use Rattle.std.specs.Prelude.{option_map}
-use Rattle.cjc_code.specs.LowerClassFile.declared.tree.Catch.{Catch}
+use Rattle.cjc_code.specs.ClassFile.declared.tree.Catch.{Catch}
 use Rattle.cjc_bytes.specs.Told.{break_of}
 use Rattle.cjc_subset.specs.Names.{catch_breaks}
 use Rattle.cjc_bytes.proofs.Firsts.{at_same, each_none, each_more, each_all}

@@ -1,5 +1,5 @@
 use Rattle.std.specs.Prelude.{option_map}
-use Rattle.cjc_world.specs.LowerExportFile.declared.tree.ExportClass.{ExportClass}
+use Rattle.cjc_world.specs.ExportFile.declared.tree.ExportClass.{ExportClass}
 use Rattle.cjc_world.specs.Classes.{all_classes, imported}
 use Rattle.cjc_bytes.specs.Told.{break_of}
 use Rattle.cjc_subset.specs.Overriding.{supertype_breaks}

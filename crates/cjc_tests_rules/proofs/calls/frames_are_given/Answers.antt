@@ -1,5 +1,5 @@
 use Rattle.std.proofs.Common.{◌≡◌, sym, subst}
-use Rattle.cjc_subset.specs.World.Classes.{all_classes}
+use Rattle.cjc_types.specs.World.Classes.{all_classes}
 use Rattle.cjc_types.specs.Flow.{Body}
 use Rattle.cjc_types.specs.Tables.{IsTypeTable}
 use Rattle.cjc_tests_rules.proofs.calls.frames_are_given.Goals as goal

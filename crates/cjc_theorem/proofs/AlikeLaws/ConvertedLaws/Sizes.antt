@@ -4,8 +4,8 @@ use Rattle.std.specs.Prelude.{◌≤◌}
 use Rattle.cjc_components.specs.Limits.{has_far_types, has_large_component, spot_of_list}
 use Rattle.cjc_components.specs.Package.{Package}
 use Rattle.cjc_bytes.specs.Breaks.{at}
-use Rattle.cjc_shape_proof.specs.Judge.declared.judged.Judged.{Judged}
-use Rattle.cjc_components.specs.List.Listed.{ListTree}
+use Rattle.cjc_shape_proof.specs.LowerJudge.declared.judged.Judged.{Judged}
+use Rattle.cjc_token_proof.specs.List.Listed.{ListTree}
 use Rattle.cjc_world.specs.Files.{Files}
 use Rattle.cjc_bytes.specs.declared.settings.FileLine.{FileLine}
 use Rattle.cjc_bytes.proofs.BrokenRules.{not_broken}
@@ -13,8 +13,8 @@ use Rattle.cjc_bytes.proofs.Lists.{none_left, none_right}
 use Rattle.cjc_token_proof.specs.Tables.Sound.{export_count}
 use Rattle.cjc_shape_proof.specs.Written.Converted.{IsConverted}
 use Rattle.cjc_shape_proof.proofs.WrittenLaws.Files.{files_sound, same_files}
-use Rattle.cjc_shape_proof.specs.CheckProof.Classes.Premises.{HasShortMethods}
-use Rattle.cjc_shape_proof.specs.CheckProof.Consistent.Premises.{HasSoundSizes}
+use Rattle.cjc_shape_proof.specs.LowerCheckProof.Classes.Premises.{HasShortMethods}
+use Rattle.cjc_shape_proof.specs.LowerCheckProof.Consistent.Premises.{HasSoundSizes}
 
 module _ (list : ListTree) (files : List (List ℕ)) (judged : Judged) (p : Package) (is : IsConverted list files judged
     p) where

@@ -7,8 +7,8 @@ use Rattle.std.specs.Int.RustNames.{int_le}
 use Rattle.std.proofs.lemmas.Int.{ints}
 use Rattle.std.proofs.lemmas.List.{map-append}
 use Rattle.std.proofs.lemmas.List.Concat.{flat_map-cons}
-use Rattle.cjc_ncode.specs.CardSemantics.Bytecode.Effects as letters
-use Rattle.cjc_ncode.specs.CardSemantics.Bytecode.Effects.{Letter}
+use Rattle.cjc_token_proof.specs.CardSemantics.Bytecode.Effects as letters
+use Rattle.cjc_token_proof.specs.CardSemantics.Bytecode.Effects.{Letter}
 use Rattle.cjc_bytes.specs.declared.fault.MemberId.{MemberId}
 use Rattle.cjc_bytes.proofs.Bools.{both_front, both_back}
 use Rattle.cjc_bytes.proofs.Integers.{le_true as true_le, above_if}
@@ -17,19 +17,19 @@ use Rattle.cjc_jvm_semantics.specs.OnePackage.{array_place, cell_of, cells, cell
 use Rattle.cjc_token_proof.proofs.ByToken.Members.{member_same}
 use Rattle.cjc_token_proof.specs.ByToken.Cells.{HasCells, are_cells, fits, is_number, is_one_of, letter, letter_by}
 use Rattle.cjc_token_proof.specs.ByToken.Cells.{lies_in}
-use Rattle.cjc_subset.specs.ClassFile.declared.tree.ClassTree.{ClassTree}
-use Rattle.cjc_subset.specs.ClassFile.declared.tree.FieldTree.{FieldTree}
-use Rattle.cjc_components.specs.Clinit.Fields.{is_cell}
-use Rattle.cjc_components.specs.Clinit.Image.{field_id}
+use Rattle.cjc_code.specs.ClassFile.declared.tree.ClassTree.{ClassTree}
+use Rattle.cjc_code.specs.ClassFile.declared.tree.FieldTree.{FieldTree}
+use Rattle.cjc_token_proof.specs.Clinit.Fields.{is_cell}
+use Rattle.cjc_token_proof.specs.Clinit.Image.{field_id}
 use Rattle.cjc_token_proof.proofs.WorldProofInitialisers.{same-field}
-use Rattle.cjc_shape_proof.specs.Classes.Descriptor.Fits.{AreFit, FitsValue, is_number_of}
+use Rattle.cjc_shape_proof.specs.LowerClasses.Descriptor.Fits.{AreFit, FitsValue, is_number_of}
 use Rattle.cjc_ncode.specs.Lowering.Agreement.{Cells}
-use Rattle.cjc_narrow.specs.Rows.Package.{first_cell}
+use Rattle.cjc_token_proof.specs.Narrow.Rows.Package.{first_cell}
 use Rattle.cjc_ncode.specs.PoolOrder.{same_member}
-use Rattle.cjc_jvm_semantics.specs.Script.Sorts.{Sort, Boolean, Byte, Short, Int, Reference, NoValue, field_sort}
-use Rattle.cjc_jvm_semantics.specs.Script.Sorts.{zero_of}
-use Rattle.cjc_jvm_semantics.specs.Script.declared.value.Value.{Value}
-use Rattle.cjc_jvm_semantics.specs.Script.declared.value.Value.TheVariants.{Num, Obj}
+use Rattle.cjc_token_proof.specs.Script.Sorts.{Sort, Boolean, Byte, Short, Int, Reference, NoValue, field_sort}
+use Rattle.cjc_token_proof.specs.Script.Sorts.{zero_of}
+use Rattle.cjc_token_proof.specs.Script.declared.value.Value.{Value}
+use Rattle.cjc_token_proof.specs.Script.declared.value.Value.TheVariants.{Num, Obj}
 use Rattle.cjc_token_proof.proofs.TablesLaws.Puts.{one_back, one_front}
 use Rattle.cjc_token_proof.specs.Tables.Known.{order_of, statics_in, statics_of}
 use Rattle.cjc_world.specs.declared.image.ArrayCell.{ArrayCell}

@@ -1,14 +1,14 @@
 -- The numbers of a converted package's static image are of the types of their fields.
 use Rattle.std.proofs.Common.{List, ℕ, sym, subst}
 use Rattle.cjc_bytes.specs.Breaks.{Break}
-use Rattle.cjc_components.specs.Clinit.Rules.{BreaksImage}
+use Rattle.cjc_token_proof.specs.Clinit.Rules.{BreaksImage}
 use Rattle.cjc_code.specs.PackageCodes.{all_codes}
 use Rattle.cjc_components.specs.Package.{Package}
-use Rattle.cjc_shape_proof.specs.Classes.Descriptor.Fits.{AreFit}
+use Rattle.cjc_shape_proof.specs.LowerClasses.Descriptor.Fits.{AreFit}
 use Rattle.cjc_shape_proof.proofs.WrittenLaws.FittingLaws.Arrays.{arrays_fit}
 use Rattle.cjc_shape_proof.proofs.WrittenLaws.FittingLaws.Values.{values_fit}
-use Rattle.cjc_shape_proof.specs.Judge.declared.judged.Judged.{Judged}
-use Rattle.cjc_components.specs.List.Listed.{ListTree}
+use Rattle.cjc_shape_proof.specs.LowerJudge.declared.judged.Judged.{Judged}
+use Rattle.cjc_token_proof.specs.List.Listed.{ListTree}
 use Rattle.cjc_shape_proof.proofs.ShapeSound as Sound
 use Rattle.cjc_world.specs.Files.{Files}
 use Rattle.cjc_shape_proof.proofs.WrittenLaws.Files.{own_image, same_files}

@@ -9,11 +9,11 @@ use Rattle.cjc_jvm_semantics.specs.OnePackage.{constant_at, instance_fields, mem
 use Rattle.cjc_token_proof.proofs.ByToken.Members.{member_same}
 use Rattle.cjc_token_proof.specs.ByToken.Cells.{is_one_of}
 use Rattle.cjc_token_proof.proofs.WorldProofOwn.{IsFieldAt, mapped_at}
-use Rattle.cjc_subset.specs.ClassFile.declared.tree.ClassTree.{ClassTree}
-use Rattle.cjc_subset.specs.ClassFile.declared.tree.FieldTree.{FieldTree}
-use Rattle.cjc_components.specs.Clinit.Fields.{is_cell}
-use Rattle.cjc_components.specs.Clinit.Image.{field_id}
-use Rattle.cjc_subset.specs.ExportFile.Members.{may_be_constant}
+use Rattle.cjc_code.specs.ClassFile.declared.tree.ClassTree.{ClassTree}
+use Rattle.cjc_code.specs.ClassFile.declared.tree.FieldTree.{FieldTree}
+use Rattle.cjc_token_proof.specs.Clinit.Fields.{is_cell}
+use Rattle.cjc_token_proof.specs.Clinit.Image.{field_id}
+use Rattle.cjc_world.specs.ExportFile.Members.{may_be_constant}
 use Rattle.cjc_ncode.specs.PoolOrder.{same_member}
 use Rattle.cjc_token_proof.proofs.TablesLaws.Groups.{chosen_has, statics_are}
 use Rattle.cjc_token_proof.specs.Tables.Known.{is_field_of, statics_of}

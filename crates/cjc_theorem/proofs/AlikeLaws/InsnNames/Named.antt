@@ -4,24 +4,24 @@ use Rattle.std.specs.Prelude.{None, Some, option_and_then}
 use Rattle.cjc_bytes.specs.declared.fault.MemberId.{MemberId}
 use Rattle.cjc_jvm_semantics.specs.OnePackage.{constant_at, of_class}
 use Rattle.cjc_token_proof.specs.ByToken.Cells.{HasCells, fields, is_one_of, letter}
-use Rattle.cjc_token_proof.specs.WorldProof.Calls.Solid.{IsSolid}
-use Rattle.cjc_ncode.specs.CardSemantics.Machine.ByToken.{letter_of}
-use Rattle.cjc_subset.specs.ClassFile.declared.tree.ClassTree.{ClassTree}
+use Rattle.cjc_shape_proof.specs.WorldProof.Calls.Solid.{IsSolid}
+use Rattle.cjc_token_proof.specs.CardSemantics.Machine.ByToken.{letter_of}
+use Rattle.cjc_code.specs.ClassFile.declared.tree.ClassTree.{ClassTree}
 use Rattle.cjc_code.specs.declared.insn.JOp.{JOp}
 use Rattle.cjc_code.specs.declared.insn.JOp.TheVariants as jop
 use Rattle.cjc_code.specs.declared.method_code.MethodCode.{MethodCode}
 use Rattle.cjc_components.specs.Package.{Package, world}
 use Rattle.cjc_theorem.proofs.AlikeLaws.InsnNames.Fields.{object_field, static_field}
 use Rattle.cjc_theorem.proofs.AlikeLaws.InsnNames.Types.{class_is_there, made_is_there, type_is_there}
-use Rattle.cjc_shape_proof.specs.Judge.Rules.{settings_of}
-use Rattle.cjc_shape_proof.specs.Judge.declared.judged.Judged.{Judged}
-use Rattle.cjc_components.specs.List.Listed.{ListTree}
+use Rattle.cjc_shape_proof.specs.LowerJudge.Rules.{settings_of}
+use Rattle.cjc_shape_proof.specs.LowerJudge.declared.judged.Judged.{Judged}
+use Rattle.cjc_token_proof.specs.List.Listed.{ListTree}
 use Rattle.cjc_theorem.proofs.AlikeLaws.NamedLaws.Members.{field_named, static_named, static_own}
-use Rattle.cjc_narrow.specs.Rows.Resolved.{constant_named, resolved_field}
+use Rattle.cjc_token_proof.specs.Narrow.Rows.Resolved.{constant_named, resolved_field}
 use Rattle.cjc_narrow_proof.proofs.LawsLaws.Casts.{cast_there, test_there}
 use Rattle.cjc_narrow_proof.proofs.LawsLaws.Instructions.{array_of_class, new_fields, op_fit, op_there}
 use Rattle.cjc_narrow_proof.specs.Laws.Unbroken.{IsInsnOf, IsUnbroken}
-use Rattle.cjc_jvm_semantics.specs.Script.Sorts.{field_sort}
+use Rattle.cjc_token_proof.specs.Script.Sorts.{field_sort}
 use Rattle.cjc_token_proof.specs.Tables.Known.{is_field_of, may_name, order_of, statics_of}
 use Rattle.cjc_vtable.proofs.Filed.{filed}
 use Rattle.cjc_world.specs.Classes.{Class}

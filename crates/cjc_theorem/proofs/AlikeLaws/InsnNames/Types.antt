@@ -5,7 +5,7 @@ use Rattle.cjc_jvm_semantics.specs.OnePackage.{is_made, made_of, object_fields}
 use Rattle.cjc_token_proof.specs.ByToken.Supers.{HasShape, has_class}
 use Rattle.cjc_narrow_proof.proofs.LawsLaws.Casts.{IsReadType}
 use Rattle.cjc_narrow_proof.specs.Runs.Types.{IsThere, of_class, of_numbers, of_references}
-use Rattle.cjc_jvm_semantics.specs.Script.Sorts.{Shape, shape_named}
+use Rattle.cjc_token_proof.specs.Script.Sorts.{Shape, shape_named}
 use Rattle.cjc_world.specs.Classes.{Class, class_named}
 use Rattle.cjc_token_proof.specs.WrittenSends.Named.{IsTypeThere}
 

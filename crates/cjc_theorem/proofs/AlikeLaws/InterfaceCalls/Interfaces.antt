@@ -3,14 +3,14 @@ use Rattle.std.proofs.Common.{◌≡◌, ℕ, sym, ap, ◌∙◌, List, []}
 use Rattle.std.specs.Prelude.{Some}
 use Rattle.cjc_bytes.specs.AccessFlags.{is_interface}
 use Rattle.cjc_bytes.specs.declared.fault.MemberId.{MemberId}
-use Rattle.cjc_subset.specs.ClassFile.declared.tree.ClassTree.{ClassTree}
+use Rattle.cjc_code.specs.ClassFile.declared.tree.ClassTree.{ClassTree}
 use Rattle.cjc_code.specs.declared.insn.JOp.TheVariants as jop
 use Rattle.cjc_components.specs.Package.{Package, world}
-use Rattle.cjc_shape_proof.specs.Judge.Rules.{has_applets, settings_of}
-use Rattle.cjc_shape_proof.specs.Judge.declared.judged.Judged.{Judged}
+use Rattle.cjc_shape_proof.specs.LowerJudge.Rules.{has_applets, settings_of}
+use Rattle.cjc_shape_proof.specs.LowerJudge.declared.judged.Judged.{Judged}
 use Rattle.cjc_shape_proof.proofs.ShapeCalled.{resolved_declared, resolved_token}
-use Rattle.cjc_components.specs.List.Listed.{ListTree}
-use Rattle.cjc_narrow.specs.Rows.Resolved.{resolved_method}
+use Rattle.cjc_token_proof.specs.List.Listed.{ListTree}
+use Rattle.cjc_token_proof.specs.Narrow.Rows.Resolved.{resolved_method}
 use Rattle.cjc_narrow_proof.proofs.LawsLaws.Instructions.{op_there}
 use Rattle.cjc_narrow_proof.specs.Laws.Unbroken.{IsInsnOf}
 use Rattle.cjc_ncode.specs.ByLabel.{OnInterface}

@@ -4,18 +4,18 @@ use Rattle.std.specs.Prelude.{None, Some, option_and_then, if◌then◌else◌}
 use Rattle.cjc_bytes.specs.AccessFlags.{is_static}
 use Rattle.cjc_bytes.specs.declared.fault.MemberId.{MemberId}
 use Rattle.cjc_jvm_semantics.specs.OnePackage.{method_hit}
-use Rattle.cjc_subset.specs.ClassFile.declared.tree.ClassTree.{ClassTree}
+use Rattle.cjc_code.specs.ClassFile.declared.tree.ClassTree.{ClassTree}
 use Rattle.cjc_code.specs.declared.insn.JOp.TheVariants as jop
 use Rattle.cjc_components.specs.Package.{Package, world}
-use Rattle.cjc_shape_proof.specs.Judge.declared.judged.Judged.{Judged}
-use Rattle.cjc_components.specs.List.Listed.{ListTree}
+use Rattle.cjc_shape_proof.specs.LowerJudge.declared.judged.Judged.{Judged}
+use Rattle.cjc_token_proof.specs.List.Listed.{ListTree}
 use Rattle.cjc_theorem.proofs.AlikeLaws.NamedLaws.Names.{Calls_method, called}
-use Rattle.cjc_narrow.specs.Rows.Package.{flags_of}
-use Rattle.cjc_narrow.specs.Rows.Resolved.{resolved_method}
+use Rattle.cjc_token_proof.specs.Narrow.Rows.Package.{flags_of}
+use Rattle.cjc_token_proof.specs.Narrow.Rows.Resolved.{resolved_method}
 use Rattle.cjc_shape_proof.proofs.FindsLaws.Descs.{member_desc}
 use Rattle.cjc_narrow_proof.specs.Laws.Unbroken.{IsInsnOf}
 use Rattle.cjc_ncode.specs.ByLabel.{Fixed}
-use Rattle.cjc_jvm_semantics.specs.Script.Sorts.{Signature, result_by, signature_by, signature_of, sort_of}
+use Rattle.cjc_token_proof.specs.Script.Sorts.{Signature, result_by, signature_by, signature_of, sort_of}
 use Rattle.cjc_token_proof.specs.WrittenCalls.Calls.{TakesWords, fixed_words}
 use Rattle.cjc_shape_proof.proofs.WrittenLaws.Files.{read_files}
 use Rattle.cjc_shape_proof.specs.Written.Converted.{IsConverted}

@@ -1,12 +1,12 @@
 -- The exceptions of the machine's own are classes of export files, and no interfaces.
 use Rattle.std.proofs.Common.{◌≡◌, ℕ, List, ap, sym, ◌∙◌, Some, true, false}
-use Rattle.cjc_ncode.specs.CardSemantics.Bytecode.Calculations.{Arithmetic, NullPointer, IndexOutside}
-use Rattle.cjc_ncode.specs.CardSemantics.Bytecode.Calculations.{NegativeSize}
-use Rattle.cjc_ncode.specs.CardSemantics.Bytecode.Calculations.{ClassCast, ArrayStore}
+use Rattle.cjc_token_proof.specs.CardSemantics.Bytecode.Calculations.{Arithmetic, NullPointer, IndexOutside}
+use Rattle.cjc_token_proof.specs.CardSemantics.Bytecode.Calculations.{NegativeSize}
+use Rattle.cjc_token_proof.specs.CardSemantics.Bytecode.Calculations.{ClassCast, ArrayStore}
 use Rattle.cjc_jvm_semantics.specs.Effects as by_name
 use Rattle.cjc_bytes.specs.AccessFlags.{is_interface}
-use Rattle.cjc_narrow.specs.Rows.Package.{fault_name}
-use Rattle.cjc_token_proof.specs.WorldProof.Files.{ExportsAreSound, IsImportedClass}
+use Rattle.cjc_token_proof.specs.Narrow.Rows.Package.{fault_name}
+use Rattle.cjc_shape_proof.specs.WorldProof.Files.{ExportsAreSound, IsImportedClass}
 use Rattle.cjc_world.specs.Classes.{Class, all_classes, class_named, imported}
 use Rattle.cjc_world.specs.Files.{Files}
 use Rattle.cjc_token_proof.specs.WrittenSends.Named.{FaultsAreClasses}

@@ -4,21 +4,21 @@ use Rattle.std.proofs.Common.{◌≡◌, ℕ, suc, ◌<◌, refl, sym, ap, ◌�
 use Rattle.std.proofs.Common.{append_assoc, length, map, ℤ}
 use Rattle.std.specs.Prelude.{◌||◌, All, Some, cond, filter, slice_get}
 use Rattle.std.specs.List.{AllByRecursion, list_any}
-use Rattle.cjc_ncode.specs.CardSemantics.Bytecode.Effects as letters
+use Rattle.cjc_token_proof.specs.CardSemantics.Bytecode.Effects as letters
 use Rattle.cjc_bytes.specs.declared.fault.MemberId.{MemberId}
 use Rattle.cjc_token_proof.proofs.ByToken.Members.{behind_all, front_all, member_same}
 use Rattle.cjc_token_proof.specs.ByToken.Cells.{HasCells, fields, is_number, is_one_of, letter, letter_by}
-use Rattle.cjc_ncode.specs.CardSemantics.Machine.ByToken.{letter_of}
+use Rattle.cjc_token_proof.specs.CardSemantics.Machine.ByToken.{letter_of}
 use Rattle.cjc_shape_proof.proofs.CheckProofLists.{has-flat, has-map}
-use Rattle.cjc_subset.specs.ClassFile.declared.tree.ClassTree.{ClassTree}
-use Rattle.cjc_subset.specs.ClassFile.declared.tree.FieldTree.{FieldTree}
-use Rattle.cjc_components.specs.Clinit.Fields.{is_cell}
-use Rattle.cjc_components.specs.Clinit.Image.{field_id}
-use Rattle.cjc_shape_proof.specs.CheckProof.Code.Members.{CellsFit}
+use Rattle.cjc_code.specs.ClassFile.declared.tree.ClassTree.{ClassTree}
+use Rattle.cjc_code.specs.ClassFile.declared.tree.FieldTree.{FieldTree}
+use Rattle.cjc_token_proof.specs.Clinit.Fields.{is_cell}
+use Rattle.cjc_token_proof.specs.Clinit.Image.{field_id}
+use Rattle.cjc_shape_proof.specs.LowerCheckProof.Code.Members.{CellsFit}
 use Rattle.cjc_components.specs.Statics.{cell_order, cell_size, size_of_field, value_by, value_bytes}
-use Rattle.cjc_shape_proof.specs.Classes.Descriptor.Fits.{AreFit, FitsValue, is_number_of}
+use Rattle.cjc_shape_proof.specs.LowerClasses.Descriptor.Fits.{AreFit, FitsValue, is_number_of}
 use Rattle.cjc_ncode.specs.PoolOrder.{same_member}
-use Rattle.cjc_jvm_semantics.specs.Script.Sorts.{Sort, Boolean, Byte, Short, Int, Reference, NoValue, field_sort}
+use Rattle.cjc_token_proof.specs.Script.Sorts.{Sort, Boolean, Byte, Short, Int, Reference, NoValue, field_sort}
 use Rattle.cjc_token_proof.specs.Tables.Known.{order_of, statics_in, statics_of}
 use Rattle.cjc_vtable.proofs.Filed.{Has, at_front, behind, get-has}
 use Rattle.cjc_world.specs.declared.image.ArrayCell.{ArrayCell}

@@ -10,10 +10,10 @@ use Rattle.cjc_bytes.specs.Spots.{desc_of, part_of}
 use Rattle.cjc_bytes.specs.declared.descriptor.Kind.{Kind}
 use Rattle.cjc_bytes.proofs.Bools.{or_left, or_right}
 use Rattle.cjc_bytes.specs.declared.descriptor.Kind.TheVariants as kinds
-use Rattle.cjc_shape_proof.specs.CheckProof.Classes.Premises.{is_known, result_known, sort_known, types_known}
-use Rattle.cjc_jvm_semantics.specs.Script.Sorts.{OfClass, OfReferences, array_by, array_of, reference_to, result_by}
-use Rattle.cjc_jvm_semantics.specs.Script.Sorts.{shape_named}
-use Rattle.cjc_jvm_semantics.specs.Script.Sorts.{signature_by, sort_by, sort_of, sort_or_none}
+use Rattle.cjc_shape_proof.specs.LowerCheckProof.Classes.Premises.{is_known, result_known, sort_known, types_known}
+use Rattle.cjc_token_proof.specs.Script.Sorts.{OfClass, OfReferences, array_by, array_of, reference_to, result_by}
+use Rattle.cjc_token_proof.specs.Script.Sorts.{shape_named}
+use Rattle.cjc_token_proof.specs.Script.Sorts.{signature_by, sort_by, sort_of, sort_or_none}
 use Rattle.cjc_world.specs.Classes.{Class, class_named}
 use Rattle.cjc_world.specs.Rules.{is_any_missing, is_desc_missing, is_element_missing, is_missing, is_none_of}
 use Rattle.cjc_world.specs.Rules.{is_type_missing}

@@ -4,7 +4,7 @@ use Rattle.std.specs.Prelude.{Option, Some, None, option_and_then, slice_get, if
 use Rattle.cjc_bytes.specs.AccessFlags.{is_interface}
 use Rattle.cjc_bytes.specs.declared.fault.MemberId.{MemberId}
 use Rattle.cjc_jvm_semantics.specs.OnePackage.{is_made, object_fields}
-use Rattle.cjc_subset.specs.ClassFile.declared.tree.ClassTree.{ClassTree}
+use Rattle.cjc_code.specs.ClassFile.declared.tree.ClassTree.{ClassTree}
 use Rattle.cjc_code.specs.declared.insn.JOp.{JOp}
 use Rattle.cjc_code.specs.declared.insn.JOp.TheVariants as jop
 use Rattle.cjc_code.specs.declared.method_code.MethodCode.{MethodCode}
@@ -12,15 +12,16 @@ use Rattle.cjc_narrow_proof.specs.Sources as sources
 use Rattle.cjc_narrow_proof.specs.Sources.{IsWrittenFor, NamesClass, names_nothing}
 use Rattle.cjc_components.specs.Package.{LaidMethod, Package, pool, world}
 use Rattle.cjc_shape_proof.proofs.WrittenLaws.FittingLaws.Order.{has_cons, has_none}
-use Rattle.cjc_shape_proof.specs.Judge.Rules.{settings_of}
-use Rattle.cjc_shape_proof.specs.Judge.declared.judged.Judged.{Judged}
-use Rattle.cjc_components.specs.List.Listed.{ListTree}
+use Rattle.cjc_shape_proof.specs.LowerJudge.Rules.{settings_of}
+use Rattle.cjc_shape_proof.specs.LowerJudge.declared.judged.Judged.{Judged}
+use Rattle.cjc_token_proof.specs.List.Listed.{ListTree}
 use Rattle.cjc_theorem.specs.Alike.Opcodes.{CallsHaveOpcodes}
 use Rattle.cjc_theorem.proofs.AlikeLaws.NamedLaws.Members.{NamesMethod, method_named}
 use Rattle.cjc_theorem.proofs.AlikeLaws.NamedLaws.Sources.{has_catch, has_source, holder}
-use Rattle.cjc_narrow.specs.Rows.Resolved.{constant_named, method_found, resolution, resolved_field, resolved_method}
-use Rattle.cjc_narrow.specs.Rows.Resolved.{special_by, virtual_by}
-use Rattle.cjc_narrow.specs.Rows.Selected.{near_fields}
+use Rattle.cjc_token_proof.specs.Narrow.Rows.Resolved.{constant_named, method_found, resolution, resolved_field}
+use Rattle.cjc_token_proof.specs.Narrow.Rows.Resolved.{resolved_method}
+use Rattle.cjc_token_proof.specs.Narrow.Rows.Resolved.{special_by, virtual_by}
+use Rattle.cjc_token_proof.specs.Narrow.Rows.Selected.{near_fields}
 use Rattle.cjc_narrow_proof.specs.Laws.Unbroken.{IsInsnOf, IsUnbroken}
 use Rattle.cjc_narrow_proof.proofs.LawsLaws.Casts.{cast_there, test_there}
 use Rattle.cjc_narrow_proof.proofs.LawsLaws.Handlers.{caught_there, class_there}
@@ -33,7 +34,7 @@ use Rattle.cjc_ncode.specs.declared.narrow.NInsn.{NInsn}
 use Rattle.cjc_ncode.specs.declared.narrow.NInsn.TheVariants as insns
 use Rattle.cjc_ncode.specs.declared.narrow.PoolKey.{PoolKey}
 use Rattle.cjc_ncode.specs.declared.narrow.PoolKey.TheVariants as keys
-use Rattle.cjc_jvm_semantics.specs.Script.Sorts.{OfClass, OfReferences, Shape, shape_named}
+use Rattle.cjc_token_proof.specs.Script.Sorts.{OfClass, OfReferences, Shape, shape_named}
 use Rattle.cjc_vtable.proofs.Filed.{Has}
 use Rattle.cjc_world.specs.Classes.{Class, all_classes, class_named, declared}
 use Rattle.cjc_world.specs.Files.{Files}

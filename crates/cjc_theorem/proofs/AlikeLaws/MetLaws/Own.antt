@@ -14,21 +14,21 @@ use Rattle.cjc_bytes.proofs.Bools.{clash as true_not_false}
 use Rattle.cjc_jvm_semantics.specs.OnePackage.{constant_at, constant_in, exported_constant, is_initialiser, of_class}
 use Rattle.cjc_token_proof.specs.ByToken.Cells.{HasCells, is_one_of}
 use Rattle.cjc_token_proof.proofs.WorldProofOwn.{IsFieldAt, mapped_at}
-use Rattle.cjc_token_proof.specs.WorldProof.Calls.Solid.{IsSolid}
+use Rattle.cjc_shape_proof.specs.WorldProof.Calls.Solid.{IsSolid}
 use Rattle.cjc_token_proof.specs.Calls.Reaching.{is_same}
-use Rattle.cjc_subset.specs.ClassFile.declared.tree.ClassTree.{ClassTree}
-use Rattle.cjc_subset.specs.ClassFile.declared.tree.FieldTree.{FieldTree}
-use Rattle.cjc_components.specs.Clinit.Image.{field_id}
-use Rattle.cjc_shape_proof.specs.CheckProof.Code.Members.{CellsFit, IsOwnCell, IsOwnClass, IsOwnField, IsOwnMethod}
+use Rattle.cjc_code.specs.ClassFile.declared.tree.ClassTree.{ClassTree}
+use Rattle.cjc_code.specs.ClassFile.declared.tree.FieldTree.{FieldTree}
+use Rattle.cjc_token_proof.specs.Clinit.Image.{field_id}
+use Rattle.cjc_shape_proof.specs.LowerCheckProof.Code.Members.{CellsFit, IsOwnCell, IsOwnClass, IsOwnField, IsOwnMethod}
 use Rattle.cjc_token_proof.proofs.ComponentsLaws.Apart.{IsOwn, order_own}
 use Rattle.cjc_components.specs.Class.{fields_in, fields_of}
 use Rattle.cjc_components.specs.Package.{Package, world}
-use Rattle.cjc_subset.specs.ExportFile.Members.{may_be_constant}
-use Rattle.cjc_shape_proof.specs.Judge.Rules.{settings_of}
-use Rattle.cjc_shape_proof.specs.Judge.declared.judged.Judged.{Judged}
-use Rattle.cjc_components.specs.List.Listed.{ListTree}
+use Rattle.cjc_world.specs.ExportFile.Members.{may_be_constant}
+use Rattle.cjc_shape_proof.specs.LowerJudge.Rules.{settings_of}
+use Rattle.cjc_shape_proof.specs.LowerJudge.declared.judged.Judged.{Judged}
+use Rattle.cjc_token_proof.specs.List.Listed.{ListTree}
 use Rattle.cjc_theorem.proofs.AlikeLaws.NamedLaws.Members.{NamesField, NamesMethod, static_own}
-use Rattle.cjc_narrow.specs.Rows.Resolved.{constant_named}
+use Rattle.cjc_token_proof.specs.Narrow.Rows.Resolved.{constant_named}
 use Rattle.cjc_narrow_proof.proofs.LawsLaws.Own.{first_here}
 use Rattle.cjc_narrow_proof.specs.Laws.Unbroken.{IsUnbroken}
 use Rattle.cjc_subset.specs.Checks.{is_imported_variable}

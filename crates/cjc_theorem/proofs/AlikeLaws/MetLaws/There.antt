@@ -8,31 +8,31 @@ use Rattle.cjc_bytes.specs.declared.fault.MemberId.{MemberId}
 use Rattle.cjc_bytes.proofs.Bools.{or_right, clash}
 use Rattle.cjc_jvm_semantics.specs.OnePackage.{ResolvedMember, is_constructor, method_hit, of_class}
 use Rattle.cjc_token_proof.specs.ByToken.Cells.{HasCells}
-use Rattle.cjc_shape_proof.specs.CheckProof.Classes.Premises.{names_known}
-use Rattle.cjc_subset.specs.ClassFile.declared.tree.ClassTree.{ClassTree}
+use Rattle.cjc_shape_proof.specs.LowerCheckProof.Classes.Premises.{names_known}
+use Rattle.cjc_code.specs.ClassFile.declared.tree.ClassTree.{ClassTree}
 use Rattle.cjc_code.specs.declared.insn.JOp.TheVariants as jop
 use Rattle.cjc_code.specs.declared.method_code.MethodCode.{MethodCode}
-use Rattle.cjc_shape_proof.specs.CheckProof.Code.Members as members
-use Rattle.cjc_shape_proof.specs.CheckProof.Code.Members.{CellsFit}
+use Rattle.cjc_shape_proof.specs.LowerCheckProof.Code.Members as members
+use Rattle.cjc_shape_proof.specs.LowerCheckProof.Code.Members.{CellsFit}
 use Rattle.cjc_components.specs.Package.{Package, world}
 use Rattle.cjc_components.specs.Types.{desc_of_key}
-use Rattle.cjc_subset.specs.ExportFile.Members.{is_unbound}
+use Rattle.cjc_world.specs.ExportFile.Members.{is_unbound}
 use Rattle.cjc_shape_proof.proofs.WrittenLaws.FittingLaws.Order.{has_cons, has_none}
-use Rattle.cjc_shape_proof.specs.Judge.Rules.{settings_of}
-use Rattle.cjc_shape_proof.specs.Judge.declared.judged.Judged.{Judged}
-use Rattle.cjc_components.specs.List.Listed.{ListTree}
+use Rattle.cjc_shape_proof.specs.LowerJudge.Rules.{settings_of}
+use Rattle.cjc_shape_proof.specs.LowerJudge.declared.judged.Judged.{Judged}
+use Rattle.cjc_token_proof.specs.List.Listed.{ListTree}
 use Rattle.cjc_theorem.proofs.AlikeLaws.NamedLaws.Members.{field_named, static_named, static_own}
 use Rattle.cjc_theorem.proofs.AlikeLaws.NamedLaws.Names.{called, fixed_in_class, private_own}
 use Rattle.cjc_shape_proof.proofs.FindsLaws.Descs.{member_desc}
 use Rattle.cjc_narrow_proof.proofs.LawsLaws.Instructions.{op_there}
 use Rattle.cjc_narrow_proof.specs.Laws.Unbroken.{IsInsnOf}
 use Rattle.cjc_subset.specs.Names.{is_name_missing, names_missing}
-use Rattle.cjc_narrow.specs.Rows.Resolved.{method_found, resolved_method, special_by, virtual_by}
+use Rattle.cjc_token_proof.specs.Narrow.Rows.Resolved.{method_found, resolved_method, special_by, virtual_by}
 use Rattle.cjc_ncode.specs.ByLabel.{OnObject, OnSuper}
 use Rattle.cjc_ncode.specs.declared.narrow.PoolKey.{PoolKey}
 use Rattle.cjc_ncode.specs.declared.narrow.PoolKey.TheVariants as keys
 use Rattle.cjc_token_proof.specs.Tables.Known.{order_of, statics_of}
-use Rattle.cjc_shape_proof.specs.CheckProof.Keys.{IsThere, called as called_object, called_above, member}
+use Rattle.cjc_shape_proof.specs.LowerCheckProof.Keys.{IsThere, called as called_object, called_above, member}
 use Rattle.cjc_vtable.proofs.Filed.{Has}
 use Rattle.cjc_world.specs.Classes.{Class, class_named}
 use Rattle.cjc_world.specs.Rules.{is_desc_missing}

@@ -7,21 +7,21 @@ use Rattle.std.proofs.lemmas.Option.{slice_get_within}
 use Rattle.cjc_bytes.specs.declared.fault.MemberId.{MemberId}
 use Rattle.cjc_bytes.proofs.Gets.{mapped_at}
 use Rattle.cjc_shape_proof.proofs.CheckProofLists.{has-mapped}
-use Rattle.cjc_shape_proof.specs.CheckProof.Classes.Premises.{is_known, types_known}
-use Rattle.cjc_subset.specs.ClassFile.declared.tree.ClassTree.{ClassTree}
-use Rattle.cjc_subset.specs.ClassFile.declared.tree.FieldTree.{FieldTree}
+use Rattle.cjc_shape_proof.specs.LowerCheckProof.Classes.Premises.{is_known, types_known}
+use Rattle.cjc_code.specs.ClassFile.declared.tree.ClassTree.{ClassTree}
+use Rattle.cjc_code.specs.ClassFile.declared.tree.FieldTree.{FieldTree}
 use Rattle.cjc_components.specs.Class.{fields_in, fields_of}
 use Rattle.cjc_components.specs.Package.{Package, pool, world}
 use Rattle.cjc_components.specs.Types.{all_descs, desc_of_field, desc_of_key, descs_of_class}
 use Rattle.cjc_shape_proof.proofs.WrittenLaws.FittingLaws.Meant.{added_method}
 use Rattle.cjc_shape_proof.proofs.WrittenLaws.FittingLaws.Order.{has_cons, has_none, order_filed}
 use Rattle.cjc_shape_proof.specs.Written.LaidOut.{IsLaidOut}
-use Rattle.cjc_shape_proof.specs.Judge.declared.judged.Judged.{Judged}
-use Rattle.cjc_components.specs.List.Listed.{ListTree}
+use Rattle.cjc_shape_proof.specs.LowerJudge.declared.judged.Judged.{Judged}
+use Rattle.cjc_token_proof.specs.List.Listed.{ListTree}
 use Rattle.cjc_shape_proof.proofs.FindsLaws.Descs.{member_desc}
 use Rattle.cjc_narrow_proof.proofs.LawsLaws.Own.{class_by_name}
 use Rattle.cjc_ncode.specs.declared.narrow.PoolKey.{PoolKey}
-use Rattle.cjc_jvm_semantics.specs.Script.Sorts.{signature_of}
+use Rattle.cjc_token_proof.specs.Script.Sorts.{signature_of}
 use Rattle.cjc_vtable.proofs.Filed.{Has, at_front, behind, get-has, has-get, has-either}
 use Rattle.cjc_world.specs.Added.{added, without_initialiser}
 use Rattle.cjc_world.specs.Classes.{Class, Member, class_named, declared, method_of_class}

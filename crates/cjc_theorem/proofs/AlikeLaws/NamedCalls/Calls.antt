@@ -1,24 +1,25 @@
 -- Each call that the code of a converted package makes is one that calls can name.
 use Rattle.std.proofs.Common.{◌≡◌, ℕ, refl, sym, ap, subst, ◌∙◌, Bool, true, false, List}
 use Rattle.std.specs.Prelude.{◌||◌, Some, option_and_then, if◌then◌else◌}
-use Rattle.cjc_ncode.specs.CardSemantics.Bytecode.Effects.{Call}
-use Rattle.cjc_ncode.specs.CardSemantics.Bytecode.Meanings.{meaning}
+use Rattle.cjc_token_proof.specs.CardSemantics.Bytecode.Effects.{Call}
+use Rattle.cjc_token_proof.specs.CardSemantics.Bytecode.Meanings.{meaning}
 use Rattle.cjc_bytes.specs.AccessFlags.{is_interface, is_private}
 use Rattle.cjc_bytes.specs.declared.fault.MemberId.{MemberId}
 use Rattle.cjc_jvm_semantics.specs.OnePackage.{ResolvedMember, is_constructor, method_hit, of_class}
-use Rattle.cjc_subset.specs.ClassFile.declared.tree.ClassTree.{ClassTree}
+use Rattle.cjc_code.specs.ClassFile.declared.tree.ClassTree.{ClassTree}
 use Rattle.cjc_code.specs.declared.insn.JOp.{JOp}
 use Rattle.cjc_code.specs.declared.insn.JOp.TheVariants as jop
 use Rattle.cjc_narrow_proof.specs.Sources as sources
 use Rattle.cjc_narrow_proof.specs.Sources.{IsWrittenFor}
 use Rattle.cjc_components.specs.Package.{LaidMethod, Package, pool, world}
-use Rattle.cjc_shape_proof.specs.Judge.declared.judged.Judged.{Judged}
-use Rattle.cjc_components.specs.List.Listed.{ListTree}
+use Rattle.cjc_shape_proof.specs.LowerJudge.declared.judged.Judged.{Judged}
+use Rattle.cjc_token_proof.specs.List.Listed.{ListTree}
 use Rattle.cjc_theorem.proofs.AlikeLaws.NamedLaws.Names.{called}
 use Rattle.cjc_theorem.proofs.AlikeLaws.NamedLaws.Sources.{has_source, holder}
 use Rattle.cjc_theorem.specs.Alike.Opcodes.{CallsHaveOpcodes}
-use Rattle.cjc_narrow.specs.Rows.Resolved.{by_owner, method_found, resolution, resolved_method, special_by, virtual_by}
-use Rattle.cjc_narrow.specs.Rows.Selected.{near_fields}
+use Rattle.cjc_token_proof.specs.Narrow.Rows.Resolved.{by_owner, method_found, resolution, resolved_method, special_by}
+use Rattle.cjc_token_proof.specs.Narrow.Rows.Resolved.{virtual_by}
+use Rattle.cjc_token_proof.specs.Narrow.Rows.Selected.{near_fields}
 use Rattle.cjc_narrow_proof.specs.Laws.Unbroken.{IsInsnOf}
 use Rattle.cjc_ncode.specs.ByLabel.{Callee, Fixed, OnInterface, OnObject, OnSuper, Resolved, naming, operation}
 use Rattle.cjc_ncode.specs.declared.narrow.NInsn.{NInsn}

@@ -1,10 +1,10 @@
 -- Which instructions of narrow code make calls.
 use Rattle.std.proofs.Common.{◌≡◌, ℕ, zero, suc, refl, ap, true, List, [], ◌∷◌, ◌++◌, ⊎_elim, inl, inr}
 use Rattle.std.specs.Prelude.{◌⊎◌, Option, Some, None, flat_map, slice_get, ℤ}
-use Rattle.cjc_ncode.specs.CardSemantics.Bytecode.Effects.{Call}
-use Rattle.cjc_ncode.specs.CardSemantics.Bytecode.Meanings.{Asks, Branches, Calls, Casts, Meaning, Paired, Plain}
-use Rattle.cjc_ncode.specs.CardSemantics.Bytecode.Meanings.{Ranged}
-use Rattle.cjc_ncode.specs.CardSemantics.Bytecode.Meanings.{Special, Static, Touches, Use, Uses, Virtual}
+use Rattle.cjc_token_proof.specs.CardSemantics.Bytecode.Effects.{Call}
+use Rattle.cjc_token_proof.specs.CardSemantics.Bytecode.Meanings.{Asks, Branches, Calls, Casts, Meaning, Paired, Plain}
+use Rattle.cjc_token_proof.specs.CardSemantics.Bytecode.Meanings.{Ranged}
+use Rattle.cjc_token_proof.specs.CardSemantics.Bytecode.Meanings.{Special, Static, Touches, Use, Uses, Virtual}
 use Rattle.cjc_bytes.specs.declared.fault.MemberId.{MemberId}
 use Rattle.cjc_narrow_proof.specs.Sources.{names_nothing}
 use Rattle.cjc_ncode.specs.ByLabel.{Callee, Resolved, jumping, making, naming, operation, plain, switching, testing}
@@ -13,7 +13,7 @@ use Rattle.cjc_ncode.specs.declared.narrow.NCase.{NCase}
 use Rattle.cjc_ncode.specs.declared.narrow.NInsn.{NInsn}
 use Rattle.cjc_ncode.specs.declared.narrow.NInsn.TheVariants as insns
 use Rattle.cjc_ncode.specs.declared.narrow.PoolKey.TheVariants as keys
-use Rattle.cjc_jvm_semantics.specs.Script.Sorts.{Element, Shape}
+use Rattle.cjc_token_proof.specs.Script.Sorts.{Element, Shape}
 use Rattle.cjc_token_proof.specs.WrittenSends.Named.{callee_in}
 
 -- ---- lists

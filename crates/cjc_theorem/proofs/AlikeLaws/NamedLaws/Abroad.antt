@@ -12,16 +12,16 @@ use Rattle.cjc_bytes.proofs.Bools.{or_left, or_right}
 use Rattle.cjc_bytes.proofs.Gets.{get_behind}
 use Rattle.cjc_jvm_semantics.specs.OnePackage.{is_initialiser}
 use Rattle.cjc_token_proof.proofs.WorldProofOwn.{IsAt, mapped_at}
-use Rattle.cjc_ncode.specs.CardSemantics.Machine.Classes.{External}
-use Rattle.cjc_ncode.specs.CardSemantics.Machine.Loaded.{OfFile}
-use Rattle.cjc_ncode.specs.CardSemantics.Machine.Operations.{Outer, method_through, outer, static_method}
-use Rattle.cjc_ncode.specs.CardSemantics.Machine.Operations.{unbound_of}
+use Rattle.cjc_token_proof.specs.CardSemantics.Machine.Classes.{External}
+use Rattle.cjc_token_proof.specs.CardSemantics.Machine.Loaded.{OfFile}
+use Rattle.cjc_token_proof.specs.CardSemantics.Machine.Operations.{Outer, method_through, outer, static_method}
+use Rattle.cjc_token_proof.specs.CardSemantics.Machine.Operations.{unbound_of}
 use Rattle.cjc_components.specs.Names.{class_at, fixed_as, member_ref, member_token, offset_where}
 use Rattle.cjc_components.specs.Package.{Package, world}
-use Rattle.cjc_subset.specs.ExportFile.Members.{is_unbound, method_token_taken, method_token_wrong, same_bool}
-use Rattle.cjc_subset.specs.ExportFile.Writable.{ClassFits, EachAfter, MethodStands}
-use Rattle.cjc_subset.specs.ExportFile.declared.tree.ExportClass.{ExportClass}
-use Rattle.cjc_subset.specs.ExportFile.declared.tree.ExportMethod.{ExportMethod}
+use Rattle.cjc_world.specs.ExportFile.Members.{is_unbound, method_token_taken, method_token_wrong, same_bool}
+use Rattle.cjc_world.specs.ExportFile.Writable.{ClassFits, EachAfter, MethodStands}
+use Rattle.cjc_world.specs.ExportFile.declared.tree.ExportClass.{ExportClass}
+use Rattle.cjc_world.specs.ExportFile.declared.tree.ExportMethod.{ExportMethod}
 use Rattle.cjc_ncode.specs.Lowering.Naming.{IsFixed}
 use Rattle.cjc_components.specs.Paired.Naming.{files_from}
 use Rattle.cjc_subset.specs.Members.{imports}

@@ -8,10 +8,10 @@ use Rattle.std.proofs.lemmas.Option.{slice_get-map}
 use Rattle.std.proofs.lemmas.Slice.Eq.{bytes_eq-Decides}
 use Rattle.std.proofs.lemmas.Map.Keys.{any_passes_from_place}
 use Rattle.cjc_components.specs.Package.{LaidMethod, Package, codes, pool, world}
-use Rattle.cjc_shape_proof.specs.Judge.declared.judged.Judged.{Judged}
-use Rattle.cjc_narrow.specs.Keys.Index.{index_of}
-use Rattle.cjc_narrow.proofs.KeysLaws.Indices.{needed}
-use Rattle.cjc_components.specs.List.Listed.{ListTree}
+use Rattle.cjc_shape_proof.specs.LowerJudge.declared.judged.Judged.{Judged}
+use Rattle.cjc_token_proof.specs.Narrow.Keys.Index.{index_of}
+use Rattle.cjc_components.proofs.NarrowIndices.{needed}
+use Rattle.cjc_token_proof.specs.List.Listed.{ListTree}
 use Rattle.cjc_ncode.specs.Lowering.Handlers.{Catches, any, every, one}
 use Rattle.cjc_ncode.specs.Lowering.Naming.{IsClass}
 use Rattle.cjc_narrow_proof.proofs.LawsLaws.Handlers.{caught_there, class_there}

@@ -10,12 +10,12 @@ use Rattle.cjc_bytes.proofs.Bools.{both_back}
 use Rattle.cjc_bytes.proofs.Numbers.{like_number}
 use Rattle.cjc_token_proof.proofs.WorldProofOwn.{mapped_at}
 use Rattle.cjc_components.specs.Package.{Package, has_applets, world}
-use Rattle.cjc_subset.specs.ExportFile.Supers.{classes_of, is_virtual, virtual_method}
-use Rattle.cjc_subset.specs.ExportFile.Supers as exports
-use Rattle.cjc_subset.specs.ExportFile.declared.tree.ExportClass.{ExportClass}
-use Rattle.cjc_subset.specs.ExportFile.declared.tree.ExportMethod.{ExportMethod}
-use Rattle.cjc_subset.specs.ExportFile.declared.tree.ExportTree.{ExportTree}
-use Rattle.cjc_token_proof.specs.WorldProof.Files.{ExportsAreSound}
+use Rattle.cjc_world.specs.ExportFile.Supers.{classes_of, is_virtual, virtual_method}
+use Rattle.cjc_world.specs.ExportFile.Supers as exports
+use Rattle.cjc_world.specs.ExportFile.declared.tree.ExportClass.{ExportClass}
+use Rattle.cjc_world.specs.ExportFile.declared.tree.ExportMethod.{ExportMethod}
+use Rattle.cjc_world.specs.ExportFile.declared.tree.ExportTree.{ExportTree}
+use Rattle.cjc_shape_proof.specs.WorldProof.Files.{ExportsAreSound}
 use Rattle.cjc_subset.specs.Members.{imports}
 use Rattle.cjc_token_proof.specs.Tables.Sound.{IsSound}
 use Rattle.cjc_tokens.specs.Members.{Signature, signature_of}

@@ -9,13 +9,13 @@ use Rattle.cjc_bytes.specs.declared.settings.Settings.{Settings}
 use Rattle.cjc_bytes.proofs.Bools.{last_of}
 use Rattle.cjc_jvm_semantics.specs.OnePackage.{is_constructor, is_initialiser}
 use Rattle.cjc_token_proof.proofs.WorldProofOwn.{mapped_at}
-use Rattle.cjc_token_proof.specs.WorldProof.Calls.Solid.{IsOwn, IsSolid}
-use Rattle.cjc_subset.specs.ClassFile.declared.tree.ClassTree.{ClassTree}
-use Rattle.cjc_subset.specs.ClassFile.declared.tree.MethodTree.{MethodTree}
+use Rattle.cjc_shape_proof.specs.WorldProof.Calls.Solid.{IsOwn, IsSolid}
+use Rattle.cjc_code.specs.ClassFile.declared.tree.ClassTree.{ClassTree}
+use Rattle.cjc_code.specs.ClassFile.declared.tree.MethodTree.{MethodTree}
 use Rattle.cjc_code.specs.declared.method_code.MethodCode.{MethodCode}
-use Rattle.cjc_subset.specs.ExportFile.Members.{not_special}
-use Rattle.cjc_subset.specs.ExportFile.Writable.{ClassFits, IsWritable, MethodStands}
-use Rattle.cjc_subset.specs.ExportFile.declared.tree.ExportTree.{ExportTree}
+use Rattle.cjc_world.specs.ExportFile.Members.{not_special}
+use Rattle.cjc_world.specs.ExportFile.Writable.{ClassFits, IsWritable, MethodStands}
+use Rattle.cjc_world.specs.ExportFile.declared.tree.ExportTree.{ExportTree}
 use Rattle.cjc_token_proof.proofs.WorldProofRules.{method_kept}
 use Rattle.cjc_subset.specs.Checks.{check_breaks}
 use Rattle.cjc_subset.specs.Flags.{is_unfit_method, is_unfit_method_kind}

@@ -3,12 +3,12 @@ use Rattle.std.proofs.Common.{◌≡◌, ℕ, ap, ◌∙◌, true, false, List, 
 use Rattle.std.specs.Prelude.{◌||◌, Some, flat_map, option_map, slice_get}
 use Rattle.std.specs.List.{list_any}
 use Rattle.std.proofs.lemmas.Option.{slice_get-map}
-use Rattle.cjc_ncode.specs.CardSemantics.Bytecode.Meanings.{Calls, Gets, GetsStatic, Makes, MakesReferences, Puts}
-use Rattle.cjc_ncode.specs.CardSemantics.Bytecode.Meanings.{PutsStatic, Special, Static, Use, Virtual}
+use Rattle.cjc_token_proof.specs.CardSemantics.Bytecode.Meanings.{Calls, Gets, GetsStatic, Makes, MakesReferences, Puts}
+use Rattle.cjc_token_proof.specs.CardSemantics.Bytecode.Meanings.{PutsStatic, Special, Static, Use, Virtual}
 use Rattle.cjc_bytes.specs.declared.fault.MemberId.{MemberId}
 use Rattle.cjc_bytes.proofs.Quantified.{any_front, any_right}
 use Rattle.cjc_bytes.proofs.Gets.{any_flat}
-use Rattle.cjc_shape_proof.specs.CheckProof.Code.Kinds.{is_for}
+use Rattle.cjc_shape_proof.specs.LowerCheckProof.Code.Kinds.{is_for}
 use Rattle.cjc_components.specs.Package.{LaidMethod, Package, codes}
 use Rattle.cjc_ncode.specs.Lowering.Naming.{Fit, Holds, IsCell, IsClass, Naming, gets, gets_static, makes}
 use Rattle.cjc_ncode.specs.Lowering.Naming.{makes_references, puts, puts_static}

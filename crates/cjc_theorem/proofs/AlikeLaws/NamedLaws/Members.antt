@@ -9,16 +9,16 @@ use Rattle.cjc_bytes.specs.declared.settings.Settings.{Settings}
 use Rattle.cjc_bytes.proofs.Bools.{or_left, or_right}
 use Rattle.cjc_jvm_semantics.specs.OnePackage.{ResolvedMember, constant_at, exported_constant, field_hit, method_hit}
 use Rattle.cjc_jvm_semantics.specs.OnePackage.{of_class}
-use Rattle.cjc_token_proof.specs.WorldProof.Calls.Solid.{IsSolid}
+use Rattle.cjc_shape_proof.specs.WorldProof.Calls.Solid.{IsSolid}
 use Rattle.cjc_token_proof.proofs.WorldProofOwn.{IsAt, IsFieldAt, field_at, field_hit_is, hit_is, mapped_at, own_at}
-use Rattle.cjc_subset.specs.ClassFile.declared.tree.ClassTree.{ClassTree}
+use Rattle.cjc_code.specs.ClassFile.declared.tree.ClassTree.{ClassTree}
 use Rattle.cjc_code.specs.declared.insn.JOp.TheVariants as jop
 use Rattle.cjc_code.specs.declared.method_code.MethodCode.{MethodCode}
-use Rattle.cjc_subset.specs.ExportFile.Members.{may_be_constant}
-use Rattle.cjc_subset.specs.ExportFile.declared.tree.ExportClass.{ExportClass}
-use Rattle.cjc_subset.specs.ExportFile.declared.tree.ExportField.{ExportField}
-use Rattle.cjc_subset.specs.ExportFile.declared.tree.ExportTree.{ExportTree}
-use Rattle.cjc_narrow.specs.Rows.Resolved.{by_owner, constant_named, resolved_field, resolved_method}
+use Rattle.cjc_world.specs.ExportFile.Members.{may_be_constant}
+use Rattle.cjc_world.specs.ExportFile.declared.tree.ExportClass.{ExportClass}
+use Rattle.cjc_world.specs.ExportFile.declared.tree.ExportField.{ExportField}
+use Rattle.cjc_world.specs.ExportFile.declared.tree.ExportTree.{ExportTree}
+use Rattle.cjc_token_proof.specs.Narrow.Rows.Resolved.{by_owner, constant_named, resolved_field, resolved_method}
 use Rattle.cjc_shape_proof.proofs.FindsLaws.Fields.{tested, tested_field, on_object}
 use Rattle.cjc_narrow_proof.specs.Laws.Calls.{CallFits}
 use Rattle.cjc_narrow_proof.specs.Laws.Unbroken.{IsInsnOf, IsUnbroken}

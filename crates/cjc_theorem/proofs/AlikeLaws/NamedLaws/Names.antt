@@ -1,33 +1,34 @@
 -- What the instructions of a converted package name stands in its pool, and means what they use.
 use Rattle.std.proofs.Common.{◌≡◌, ◌⊎◌, inl, inr, ℕ, refl, sym, ap, subst, ◌∙◌, Bool, true, false, List}
 use Rattle.std.specs.Prelude.{not, ◌&&◌, ◌||◌, Option, Some, None, option_and_then, slice_get, if◌then◌else◌}
-use Rattle.cjc_ncode.specs.CardSemantics.Bytecode.Meanings.{Calls, Special, Static, Use, Virtual}
+use Rattle.cjc_token_proof.specs.CardSemantics.Bytecode.Meanings.{Calls, Special, Static, Use, Virtual}
 use Rattle.cjc_bytes.specs.AccessFlags.{is_interface, is_private, is_protected, is_public, is_static}
 use Rattle.cjc_bytes.specs.declared.fault.MemberId.{MemberId}
 use Rattle.cjc_bytes.proofs.Bools.{clash as true_not_false}
 use Rattle.cjc_jvm_semantics.specs.OnePackage.{is_constructor, is_initialiser, is_made, method_hit, object_fields}
 use Rattle.cjc_jvm_semantics.specs.OnePackage.{of_class}
 use Rattle.cjc_token_proof.proofs.WorldProofOwn.{IsAt, mapped_at}
-use Rattle.cjc_token_proof.specs.WorldProof.Calls.Solid.{IsSolid}
-use Rattle.cjc_ncode.specs.CardSemantics.Machine.Operations.{static_cell}
-use Rattle.cjc_subset.specs.ClassFile.declared.tree.ClassTree.{ClassTree}
+use Rattle.cjc_shape_proof.specs.WorldProof.Calls.Solid.{IsSolid}
+use Rattle.cjc_token_proof.specs.CardSemantics.Machine.Operations.{static_cell}
+use Rattle.cjc_code.specs.ClassFile.declared.tree.ClassTree.{ClassTree}
 use Rattle.cjc_code.specs.declared.insn.JOp.{JOp}
 use Rattle.cjc_code.specs.declared.insn.JOp.TheVariants as jop
 use Rattle.cjc_code.specs.declared.method_code.MethodCode.{MethodCode}
-use Rattle.cjc_shape_proof.specs.CheckProof.Code.Kinds.{HasKind, is_for}
+use Rattle.cjc_shape_proof.specs.LowerCheckProof.Code.Kinds.{HasKind, is_for}
 use Rattle.cjc_narrow_proof.specs.Sources as sources
 use Rattle.cjc_narrow_proof.specs.Sources.{IsWrittenFor, NamesClass, names_nothing}
 use Rattle.cjc_components.specs.Names.{class_at, field_token, member_ref}
 use Rattle.cjc_components.specs.Package.{LaidMethod, Package, pool, world}
 use Rattle.cjc_components.specs.Statics.{cell_offset}
-use Rattle.cjc_subset.specs.ExportFile.Members.{is_unbound}
-use Rattle.cjc_shape_proof.specs.Judge.Rules.{settings_of}
-use Rattle.cjc_shape_proof.specs.Judge.declared.judged.Judged.{Judged}
-use Rattle.cjc_components.specs.List.Listed.{ListTree}
+use Rattle.cjc_world.specs.ExportFile.Members.{is_unbound}
+use Rattle.cjc_shape_proof.specs.LowerJudge.Rules.{settings_of}
+use Rattle.cjc_shape_proof.specs.LowerJudge.declared.judged.Judged.{Judged}
+use Rattle.cjc_token_proof.specs.List.Listed.{ListTree}
 use Rattle.cjc_ncode.specs.Lowering.Naming.{Fit, IsCell, IsClass, calls_special, calls_static}
-use Rattle.cjc_narrow.specs.Rows.Resolved.{method_found, resolution, resolved_field, resolved_method, special_by}
-use Rattle.cjc_narrow.specs.Rows.Resolved.{virtual_by}
-use Rattle.cjc_narrow.specs.Rows.Selected.{near_fields}
+use Rattle.cjc_token_proof.specs.Narrow.Rows.Resolved.{method_found, resolution, resolved_field, resolved_method}
+use Rattle.cjc_token_proof.specs.Narrow.Rows.Resolved.{special_by}
+use Rattle.cjc_token_proof.specs.Narrow.Rows.Resolved.{virtual_by}
+use Rattle.cjc_token_proof.specs.Narrow.Rows.Selected.{near_fields}
 use Rattle.cjc_narrow_proof.specs.Laws.Unbroken.{IsInsnOf, IsUnbroken}
 use Rattle.cjc_narrow_proof.proofs.LawsLaws.Casts.{cast_there, test_there}
 use Rattle.cjc_narrow_proof.proofs.LawsLaws.Instructions.{array_of_class, new_fields, op_fit, op_there, virtual_there}
@@ -37,7 +38,7 @@ use Rattle.cjc_ncode.specs.declared.narrow.NInsn.{NInsn}
 use Rattle.cjc_ncode.specs.declared.narrow.NInsn.TheVariants as insns
 use Rattle.cjc_ncode.specs.declared.narrow.PoolKey.{PoolKey}
 use Rattle.cjc_ncode.specs.declared.narrow.PoolKey.TheVariants as keys
-use Rattle.cjc_jvm_semantics.specs.Script.Sorts.{OfClass, OfReferences, Shape, shape_named}
+use Rattle.cjc_token_proof.specs.Script.Sorts.{OfClass, OfReferences, Shape, shape_named}
 use Rattle.cjc_narrow_proof.specs.Selected.Names.{NamesFit}
 use Rattle.cjc_subset.specs.Names.{is_unfit_virtual}
 use Rattle.cjc_subset.specs.Members as subset

@@ -11,10 +11,10 @@ use Rattle.cjc_bytes.specs.declared.fault.MemberId.{MemberId}
 use Rattle.cjc_bytes.proofs.Gets.{contained, mapped_at}
 use Rattle.cjc_jvm_semantics.specs.Linked.{Method}
 use Rattle.cjc_jvm_semantics.specs.OnePackage.{method_at, method_by, method_in}
-use Rattle.cjc_subset.specs.ClassFile.Code.{CodeTree}
-use Rattle.cjc_subset.specs.ClassFile.declared.tree.Catch.{Catch}
-use Rattle.cjc_subset.specs.ClassFile.declared.tree.ClassTree.{ClassTree}
-use Rattle.cjc_subset.specs.ClassFile.declared.tree.MethodTree.{MethodTree}
+use Rattle.cjc_code.specs.ClassFile.Code.{CodeTree}
+use Rattle.cjc_code.specs.ClassFile.declared.tree.Catch.{Catch}
+use Rattle.cjc_code.specs.ClassFile.declared.tree.ClassTree.{ClassTree}
+use Rattle.cjc_code.specs.ClassFile.declared.tree.MethodTree.{MethodTree}
 use Rattle.cjc_code.specs.Decoded.{decoded, insns_of, of_code, of_method}
 use Rattle.cjc_code.specs.PackageCodes.{all_codes}
 use Rattle.cjc_code.specs.declared.insn.JOp.{JOp}
@@ -23,13 +23,13 @@ use Rattle.cjc_narrow_proof.proofs.NamesLaws.Sources.{source_at}
 use Rattle.cjc_narrow_proof.specs.Sources.{IsWrittenFor}
 use Rattle.cjc_components.specs.Package.{LaidMethod, Package, pool, world}
 use Rattle.cjc_components.specs.Written.{code_at, code_by}
-use Rattle.cjc_shape_proof.specs.Judge.declared.judged.Judged.{Judged}
-use Rattle.cjc_components.specs.List.Listed.{ListTree}
-use Rattle.cjc_narrow.specs.Rows.Package.{code_of, flags_of, read_of}
-use Rattle.cjc_narrow.specs.Rows.Resolved.{method_found, resolution}
-use Rattle.cjc_narrow.specs.Pairs.Roles.{role_in, roles_of, with_pairs}
-use Rattle.cjc_narrow.specs.Written.Rows.{has_rows}
-use Rattle.cjc_narrow.specs.Rows.Selected.{near_fields}
+use Rattle.cjc_shape_proof.specs.LowerJudge.declared.judged.Judged.{Judged}
+use Rattle.cjc_token_proof.specs.List.Listed.{ListTree}
+use Rattle.cjc_token_proof.specs.Narrow.Rows.Package.{code_of, flags_of, read_of}
+use Rattle.cjc_token_proof.specs.Narrow.Rows.Resolved.{method_found, resolution}
+use Rattle.cjc_token_proof.specs.Narrow.Pairs.Roles.{role_in, roles_of, with_pairs}
+use Rattle.cjc_token_proof.specs.Narrow.Written.Rows.{has_rows}
+use Rattle.cjc_token_proof.specs.Narrow.Rows.Selected.{near_fields}
 use Rattle.cjc_narrow_proof.specs.Laws.Unbroken.{IsInsnOf}
 use Rattle.cjc_narrow_proof.proofs.LawsLaws.Own.{class_by_name}
 use Rattle.cjc_ncode.specs.Written.{catch_at, catches_at, place_in, reached}
@@ -40,8 +40,8 @@ use Rattle.cjc_shape_proof.proofs.ShapeSound.{are_ready}
 use Rattle.cjc_narrow_proof.proofs.SelectedLaws.Places.{reached_from}
 use Rattle.cjc_token_proof.proofs.TablesLaws.Filed.{own_filed}
 use Rattle.cjc_token_proof.proofs.TablesLaws.Order.{kind-in}
-use Rattle.cjc_narrow_proof.specs.Types.Tables.{IsMethodOf}
-use Rattle.cjc_narrow_proof.specs.Types.declared.state.State.{State}
+use Rattle.cjc_token_proof.specs.Types.Tables.{IsMethodOf}
+use Rattle.cjc_token_proof.specs.Types.declared.state.State.{State}
 use Rattle.cjc_world.specs.declared.found.Found.{Found}
 use Rattle.cjc_world.specs.Added.{added}
 use Rattle.cjc_world.specs.Classes.{Class, Member, class_named, declared}

@@ -12,10 +12,10 @@ use Rattle.cjc_bytes.specs.declared.fault.MemberId.{MemberId}
 use Rattle.cjc_bytes.specs.declared.settings.Settings.{Settings}
 use Rattle.cjc_bytes.proofs.Lists.{bytes_true, none_left, none_right}
 use Rattle.cjc_bytes.proofs.BrokenRules.{not_broken, each_at}
-use Rattle.cjc_subset.specs.ClassFile.declared.tree.ClassTree.{ClassTree}
+use Rattle.cjc_code.specs.ClassFile.declared.tree.ClassTree.{ClassTree}
 use Rattle.cjc_code.specs.declared.method_code.MethodCode.{MethodCode}
-use Rattle.cjc_subset.specs.ExportFile.declared.tree.ExportClass.{ExportClass}
-use Rattle.cjc_subset.specs.ExportFile.declared.tree.ExportTree.{ExportTree}
+use Rattle.cjc_world.specs.ExportFile.declared.tree.ExportClass.{ExportClass}
+use Rattle.cjc_world.specs.ExportFile.declared.tree.ExportTree.{ExportTree}
 use Rattle.cjc_subset.specs.Checks.{check_breaks, class_breaks, code_breaks, list_breaks, own_breaks}
 use Rattle.cjc_subset.specs.Members.{imports}
 use Rattle.cjc_subset.specs.Overriding.{gets_hidden, hides_added, hides_one, is_open, is_out_of_sight}

@@ -7,16 +7,16 @@ use Rattle.cjc_bytes.specs.AccessFlags.{is_abstract, is_interface, is_public}
 use Rattle.cjc_bytes.specs.declared.fault.MemberId.{MemberId}
 use Rattle.cjc_jvm_semantics.specs.OnePackage.{of_class}
 use Rattle.cjc_token_proof.proofs.WorldProofTypes.{below_type, receiver_class}
-use Rattle.cjc_token_proof.specs.WorldProof.Calls.Solid.{IsSolid}
+use Rattle.cjc_shape_proof.specs.WorldProof.Calls.Solid.{IsSolid}
 use Rattle.cjc_token_proof.specs.Calls.Selecting.{signature}
-use Rattle.cjc_subset.specs.ClassFile.declared.tree.ClassTree.{ClassTree}
+use Rattle.cjc_code.specs.ClassFile.declared.tree.ClassTree.{ClassTree}
 use Rattle.cjc_code.specs.declared.insn.JOp.TheVariants as jop
 use Rattle.cjc_components.specs.Package.{Package, world}
-use Rattle.cjc_shape_proof.specs.Judge.Rules.{settings_of}
-use Rattle.cjc_shape_proof.specs.Judge.declared.judged.Judged.{Judged}
-use Rattle.cjc_components.specs.List.Listed.{ListTree}
+use Rattle.cjc_shape_proof.specs.LowerJudge.Rules.{settings_of}
+use Rattle.cjc_shape_proof.specs.LowerJudge.declared.judged.Judged.{Judged}
+use Rattle.cjc_token_proof.specs.List.Listed.{ListTree}
 use Rattle.cjc_theorem.proofs.AlikeLaws.NamedLaws.Names.{Calls_method, called, virtual_class, virtual_owner}
-use Rattle.cjc_narrow.specs.Rows.Resolved.{resolved_method, virtual_by}
+use Rattle.cjc_token_proof.specs.Narrow.Rows.Resolved.{resolved_method, virtual_by}
 use Rattle.cjc_narrow_proof.specs.Laws.Unbroken.{IsInsnOf, IsUnbroken}
 use Rattle.cjc_ncode.specs.ByLabel.{OnObject}
 use Rattle.cjc_vtable.specs.Meant.{AskedHaveTokens}

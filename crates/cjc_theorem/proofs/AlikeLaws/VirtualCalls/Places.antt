@@ -11,10 +11,10 @@ use Rattle.cjc_bytes.specs.AccessFlags.{is_interface}
 use Rattle.cjc_bytes.proofs.Numbers.{like_number}
 use Rattle.cjc_bytes.proofs.Gets.{in_front, at_end}
 use Rattle.cjc_token_proof.proofs.WorldProofOwn.{mapped_at}
-use Rattle.cjc_subset.specs.ExportFile.Members.{interface_token, interface_token_taken}
-use Rattle.cjc_subset.specs.ExportFile.Writable.{ClassFits, EachAfter, IsWritable, MethodStands}
-use Rattle.cjc_subset.specs.ExportFile.declared.tree.ExportMethod.{ExportMethod}
-use Rattle.cjc_subset.specs.ExportFile.declared.tree.ExportTree.{ExportTree}
+use Rattle.cjc_world.specs.ExportFile.Members.{interface_token, interface_token_taken}
+use Rattle.cjc_world.specs.ExportFile.Writable.{ClassFits, EachAfter, IsWritable, MethodStands}
+use Rattle.cjc_world.specs.ExportFile.declared.tree.ExportMethod.{ExportMethod}
+use Rattle.cjc_world.specs.ExportFile.declared.tree.ExportTree.{ExportTree}
 use Rattle.cjc_subset.specs.Members.{imports}
 use Rattle.cjc_tokens.specs.Members.{In, first_of, is_initialiser, later, signature_of}
 use Rattle.cjc_tokens.specs.Methods.{interface_methods}

@@ -5,17 +5,17 @@ use Rattle.cjc_bytes.specs.AccessFlags.{is_private}
 use Rattle.cjc_bytes.specs.declared.fault.MemberId.{MemberId}
 use Rattle.cjc_jvm_semantics.specs.OnePackage.{ResolvedMember, of_class}
 use Rattle.cjc_token_proof.proofs.WorldProofOwn.{mapped_at}
-use Rattle.cjc_subset.specs.ClassFile.declared.tree.ClassTree.{ClassTree}
+use Rattle.cjc_code.specs.ClassFile.declared.tree.ClassTree.{ClassTree}
 use Rattle.cjc_code.specs.declared.insn.JOp.TheVariants as jop
 use Rattle.cjc_components.specs.Package.{Package, world}
-use Rattle.cjc_shape_proof.specs.CheckProof.Exports.{ExportsHaveOneAccess}
+use Rattle.cjc_shape_proof.specs.LowerCheckProof.Exports.{ExportsHaveOneAccess}
 use Rattle.cjc_theorem.proofs.AlikeLaws.InterfaceCalls.Words.{called_signature}
-use Rattle.cjc_shape_proof.specs.Judge.declared.judged.Judged.{Judged}
-use Rattle.cjc_components.specs.List.Listed.{ListTree}
-use Rattle.cjc_narrow.specs.Rows.Resolved.{by_owner, resolved_method, virtual_by}
+use Rattle.cjc_shape_proof.specs.LowerJudge.declared.judged.Judged.{Judged}
+use Rattle.cjc_token_proof.specs.List.Listed.{ListTree}
+use Rattle.cjc_token_proof.specs.Narrow.Rows.Resolved.{by_owner, resolved_method, virtual_by}
 use Rattle.cjc_narrow_proof.specs.Laws.Unbroken.{IsInsnOf}
 use Rattle.cjc_ncode.specs.ByLabel.{OnObject, OnSuper}
-use Rattle.cjc_jvm_semantics.specs.Script.Sorts.{signature_of}
+use Rattle.cjc_token_proof.specs.Script.Sorts.{signature_of}
 use Rattle.cjc_tokens.specs.Members.{In, is_exposed}
 use Rattle.cjc_vtable.proofs.Filed.{IsFiled, filed, in_class_file, in_export_file}
 use Rattle.cjc_world.specs.Classes.{Class, Member, class_named, method_of_export}

@@ -1,6 +1,6 @@
-use Rattle.cjc_ncode.specs.CardSemantics.Machine.ByToken.{run as run_by_token}
+use Rattle.cjc_token_proof.specs.CardSemantics.Machine.ByToken.{run as run_by_token}
 use Rattle.cjc_components.specs.Paired.Naming.{loaded_of}
-use Rattle.cjc_shape_proof.specs.Judge.Rules.{has_applets, settings_of}
+use Rattle.cjc_shape_proof.specs.LowerJudge.Rules.{has_applets, settings_of}
 use Rattle.cjc_jvm_semantics.specs.ByName.{run as run_by_name}
 use Rattle.cjc_theorem.proofs.AlikeLaws.Agreeing.{agree_also}
 use Rattle.cjc_shape_proof.proofs.ShapeSecond.{ints_of}

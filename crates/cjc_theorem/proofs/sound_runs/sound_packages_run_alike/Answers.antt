@@ -1,4 +1,4 @@
-use Rattle.cjc_shape_proof.specs.Judge.Rules.{settings_of}
+use Rattle.cjc_shape_proof.specs.LowerJudge.Rules.{settings_of}
 use Rattle.cjc_theorem.proofs.SoundRuns.Alike.{draft_runs, own_tables, whole}
 use Rattle.cjc_theorem.proofs.sound_runs.sound_packages_run_alike.Goals as goal
 use Rattle.cjc_shape_proof.proofs.ShapeSecond.{package_is_draft}

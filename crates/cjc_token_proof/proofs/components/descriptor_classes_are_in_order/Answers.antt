@@ -2,11 +2,11 @@ use Rattle.std.proofs.Common.{◌≡◌, ℕ, suc, ◌+◌, List, [], ◌∷◌,
 use Rattle.std.specs.Prelude.{Some, map, slice_get, nat_le}
 use Rattle.std.proofs.lemmas.Bool.Decides.{nat_tests}
 use Rattle.std.proofs.lemmas.List.{length-map}
-use Rattle.cjc_ncode.specs.CapRead.declared.tree.ClassRef.TheVariants.{Inside}
-use Rattle.cjc_components.specs.CheckRules.declared.spot.ComponentPlace.{ComponentPlace}
-use Rattle.cjc_components.specs.CheckRules.Spots.{in_info, unless, numbered}
-use Rattle.cjc_components.specs.CheckRules.Complete.{described_size}
-use Rattle.cjc_components.specs.CheckRules.Described.{class_spots, is_start_of, all_starts}
+use Rattle.cjc_card_semantics.specs.CapRead.declared.tree.ClassRef.TheVariants.{Inside}
+use Rattle.cjc_components.specs.LowerCheckRules.declared.spot.ComponentPlace.{ComponentPlace}
+use Rattle.cjc_components.specs.LowerCheckRules.Spots.{in_info, unless, numbered}
+use Rattle.cjc_components.specs.LowerCheckRules.Complete.{described_size}
+use Rattle.cjc_components.specs.LowerCheckRules.Described.{class_spots, is_start_of, all_starts}
 use Rattle.cjc_world.specs.Classes.{Class}
 use Rattle.cjc_world.specs.Order.{class_order}
 use Rattle.cjc_components.specs.Package.{Package, world}

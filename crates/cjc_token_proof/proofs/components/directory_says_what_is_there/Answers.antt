@@ -1,16 +1,16 @@
 use Rattle.std.proofs.Common.{◌≡◌, ℕ, ◌+◌, ◌/◌, ◌<◌, ◌==◌, Bool, true, false, List, [], length, refl, ap, ◌∙◌, arith}
 use Rattle.std.specs.Prelude.{◌&&◌, ◌||◌, not}
 use Rattle.std.proofs.lemmas.Bool.Decides.{nat_tests}
-use Rattle.cjc_components.specs.CapWrite.Package.{applet_bytes, directory_bytes}
-use Rattle.cjc_components.specs.CapWrite.Export.{export_bytes}
-use Rattle.cjc_components.specs.CheckRules.Spots.{in_info, beside}
-use Rattle.cjc_components.specs.CheckRules.Complete.{applets_size, export_size, header_size, import_size}
-use Rattle.cjc_components.specs.CheckRules.Complete.{pool_size}
-use Rattle.cjc_components.specs.CheckRules.Complete.{class_info_size, method_size, statics_size, locations_size}
-use Rattle.cjc_components.specs.CheckRules.Complete.{descriptor_size}
-use Rattle.cjc_components.specs.CheckRules.Complete.{size_of, directory_size}
-use Rattle.cjc_components.specs.CheckRules.Listed.{applet_count, may_be_absent, size_spots, sizes_agree}
-use Rattle.cjc_components.specs.CheckRules.Listed.{array_bytes}
+use Rattle.cjc_components.specs.LowerCapWrite.Package.{applet_bytes, directory_bytes}
+use Rattle.cjc_components.specs.LowerCapWrite.Export.{export_bytes}
+use Rattle.cjc_components.specs.LowerCheckRules.Spots.{in_info, beside}
+use Rattle.cjc_components.specs.LowerCheckRules.Complete.{applets_size, export_size, header_size, import_size}
+use Rattle.cjc_components.specs.LowerCheckRules.Complete.{pool_size}
+use Rattle.cjc_components.specs.LowerCheckRules.Complete.{class_info_size, method_size, statics_size, locations_size}
+use Rattle.cjc_components.specs.LowerCheckRules.Complete.{descriptor_size}
+use Rattle.cjc_components.specs.LowerCheckRules.Complete.{size_of, directory_size}
+use Rattle.cjc_components.specs.LowerCheckRules.Listed.{applet_count, may_be_absent, size_spots, sizes_agree}
+use Rattle.cjc_components.specs.LowerCheckRules.Listed.{array_bytes}
 use Rattle.cjc_components.specs.Package.{Package}
 use Rattle.cjc_components.specs.Class.{class_info}
 use Rattle.cjc_components.specs.Statics.{static_field}
@@ -19,7 +19,7 @@ use Rattle.cjc_components.specs.Exports.{export}
 use Rattle.cjc_components.specs.Descriptor.{descriptor}
 use Rattle.cjc_components.specs.Components.{header, applet, imported_package, import, method, reference_location}
 use Rattle.cjc_components.specs.Components.{components_of, sizes}
-use Rattle.cjc_components.specs.CheckRules.Complete.{size_items}
+use Rattle.cjc_components.specs.LowerCheckRules.Complete.{size_items}
 use Rattle.std.proofs.lemmas.List.{length-map}
 use Rattle.cjc_token_proof.proofs.ComponentsLaws.Tests.{passes, none_in_both}
 use Rattle.cjc_token_proof.proofs.ComponentsLaws.Sizes.{part_size, header_is, applets_are, import_is, pool_is}

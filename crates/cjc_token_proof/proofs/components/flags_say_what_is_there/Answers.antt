@@ -3,9 +3,9 @@ use Rattle.std.specs.Prelude.{◌&&◌, is_some, nat_lt}
 use Rattle.std.proofs.lemmas.Bool.Decides.{nat_tests}
 use Rattle.cjc_bytes.specs.declared.settings.AppletLine.{AppletLine}
 use Rattle.cjc_bytes.specs.AccessFlags.{has}
-use Rattle.cjc_tokens.specs.ExportFile.Members.{same_bool}
-use Rattle.cjc_components.specs.CheckRules.Spots.{in_info}
-use Rattle.cjc_components.specs.CheckRules.Listed.{acc_applet, acc_export}
+use Rattle.cjc_world.specs.ExportFile.Members.{same_bool}
+use Rattle.cjc_components.specs.LowerCheckRules.Spots.{in_info}
+use Rattle.cjc_components.specs.LowerCheckRules.Listed.{acc_applet, acc_export}
 use Rattle.cjc_components.specs.Package.{Package, world, has_applets}
 use Rattle.cjc_components.specs.Exports.{export}
 use Rattle.cjc_components.specs.Components.{uses_int, header_flags, applet_with}

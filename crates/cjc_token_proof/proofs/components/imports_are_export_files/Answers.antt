@@ -1,10 +1,10 @@
 use Rattle.std.proofs.Common.{◌≡◌, ℕ, ◌+◌, ◌==◌, List, [], ◌∷◌, length, refl, ap, ◌∙◌}
 use Rattle.std.specs.Prelude.{map}
 use Rattle.std.proofs.lemmas.List.{length-map}
-use Rattle.cjc_tokens.specs.ExportFile.declared.tree.ExportTree.{ExportTree}
-use Rattle.cjc_components.specs.CheckRules.Spots.{in_info, beside, bytes_differ}
-use Rattle.cjc_components.specs.CheckRules.Complete.{package_size}
-use Rattle.cjc_components.specs.CheckRules.Imports.{packages_agree}
+use Rattle.cjc_world.specs.ExportFile.declared.tree.ExportTree.{ExportTree}
+use Rattle.cjc_components.specs.LowerCheckRules.Spots.{in_info, beside, bytes_differ}
+use Rattle.cjc_components.specs.LowerCheckRules.Complete.{package_size}
+use Rattle.cjc_components.specs.LowerCheckRules.Imports.{packages_agree}
 use Rattle.cjc_components.specs.Components.{imported_package}
 use Rattle.cjc_token_proof.proofs.ComponentsLaws.Tests.{passes, none_in_both}
 use Rattle.cjc_bytes.proofs.Numbers.{like_number}

@@ -5,14 +5,14 @@ use Rattle.std.specs.Prelude.{unwrap_or, cond, ◌||◌, if◌then◌else◌}
 use Rattle.std.specs.List.{find}
 use Rattle.std.specs.Str.{bytes_eq}
 use Rattle.std.proofs.lemmas.Bool.{or_right}
-use Rattle.cjc_ncode.specs.CapRead.declared.tree.ClassRef.{ClassRef}
-use Rattle.cjc_ncode.specs.CapRead.declared.tree.ClassRef.TheVariants.{Inside}
-use Rattle.cjc_tokens.specs.ExportFile.declared.tree.ExportClass.{ExportClass}
-use Rattle.cjc_tokens.specs.ExportFile.declared.tree.ExportTree.{ExportTree}
+use Rattle.cjc_card_semantics.specs.CapRead.declared.tree.ClassRef.{ClassRef}
+use Rattle.cjc_card_semantics.specs.CapRead.declared.tree.ClassRef.TheVariants.{Inside}
+use Rattle.cjc_world.specs.ExportFile.declared.tree.ExportClass.{ExportClass}
+use Rattle.cjc_world.specs.ExportFile.declared.tree.ExportTree.{ExportTree}
 use Rattle.cjc_card_semantics.specs.Machine.Classes.{Class, Own, External, external_from, or_else, token_named}
-use Rattle.cjc_components.specs.CheckRules.Spots.{Placed, begins}
-use Rattle.cjc_components.specs.CheckRules.Classes.{imported, is_there, interfaces_at, classes_at, is_start}
-use Rattle.cjc_components.specs.CheckRules.Described.{all_starts}
+use Rattle.cjc_components.specs.LowerCheckRules.Spots.{Placed, begins}
+use Rattle.cjc_components.specs.LowerCheckRules.Classes.{imported, is_there, interfaces_at, classes_at, is_start}
+use Rattle.cjc_components.specs.LowerCheckRules.Described.{all_starts}
 use Rattle.cjc_world.specs.Order.{class_order}
 use Rattle.cjc_components.specs.Package.{Package, world}
 use Rattle.cjc_components.specs.Class.{class_info}

@@ -7,9 +7,9 @@ use Rattle.cjc_bytes.specs.declared.descriptor.Kind.{Kind}
 use Rattle.cjc_bytes.proofs.Numbers.{like_number}
 use Rattle.cjc_bytes.specs.declared.descriptor.Kind.TheVariants as kinds
 use Rattle.cjc_world.specs.declared.image.ArrayCell.{ArrayCell}
-use Rattle.cjc_components.specs.CheckRules.Spots.{in_info, along}
-use Rattle.cjc_components.specs.CheckRules.Complete.{array_size}
-use Rattle.cjc_components.specs.CheckRules.Statics.{element_size, in_array}
+use Rattle.cjc_components.specs.LowerCheckRules.Spots.{in_info, along}
+use Rattle.cjc_components.specs.LowerCheckRules.Complete.{array_size}
+use Rattle.cjc_components.specs.LowerCheckRules.Statics.{element_size, in_array}
 use Rattle.cjc_components.specs.Statics.{static_field, array_init, element_bytes, type_number, reference_count}
 use Rattle.cjc_token_proof.proofs.ComponentsLaws.Tests.{passes, none_in_both}
 use Rattle.cjc_token_proof.proofs.components.static_image_adds_up.Goals as goal

@@ -1,6 +1,6 @@
 use Rattle.std.proofs.Common.{◌≡◌, map, take}
 use Rattle.cjc_card_acts.specs.Told.{type_told}
-use Rattle.cjc_methods.specs.Check.Codes.Bodies.{placed_of}
+use Rattle.cjc_methods.specs.LowerCheck.Codes.Bodies.{placed_of}
 use Rattle.cjc_verify.specs.Bodies.{step}
 use Rattle.cjc_verify.proofs.bodies.steps.Given as goal
 

@@ -1,6 +1,6 @@
 use Rattle.std.proofs.Common.{◌∙◌, List, ap, map, refl, sym}
-use Rattle.cjc_card_calls.specs.CardSemantics.Machine.Loaded.{Loaded}
-use Rattle.cjc_pairing.specs.ClassOrder.Classes.Numbers.{declared_at}
+use Rattle.cjc_card_acts.specs.CardSemantics.Machine.Loaded.{Loaded}
+use Rattle.cjc_classes.specs.ClassOrder.Classes.Numbers.{declared_at}
 use Rattle.cjc_verify.specs.Pairs.{Pair}
 use Rattle.cjc_verify.specs.Working.Ready.{pair_by}
 use Rattle.cjc_verify.proofs.checker.break_by.Goals as goal

@@ -1,7 +1,7 @@
 use Rattle.std.proofs.Common.{◌≡◌, ◌∙◌, subst, IfOk}
 use Rattle.std.specs.Prelude.{option_map}
 use Rattle.cjc_bytes.specs.Told.{break_of}
-use Rattle.cjc_card_calls.specs.CheckIndex.Lookup.Parts.{complete_of}
+use Rattle.cjc_pairing.specs.CheckIndex.Lookup.Parts.{complete_of}
 use Rattle.cjc_verify.proofs.Made.{loaded_kept, same_pair}
 use Rattle.cjc_verify.specs.Pairs.{Pair}
 use Rattle.cjc_verify.specs.Verified.{Breaks}

@@ -1,8 +1,8 @@
 use Rattle.std.proofs.Common.{◌≡◌, ◌∙◌, List, ap, map, subst, sym, IfOk}
 use Rattle.std.specs.Prelude.{option_map}
 use Rattle.cjc_bytes.specs.Told.{break_of}
-use Rattle.cjc_methods.specs.Check.Codes.Bodies.{code_of}
-use Rattle.cjc_card_calls.specs.CheckIndex.Lookup.Parts.{complete_of}
+use Rattle.cjc_methods.specs.LowerCheck.Codes.Bodies.{code_of}
+use Rattle.cjc_pairing.specs.CheckIndex.Lookup.Parts.{complete_of}
 use Rattle.cjc_check_rules.specs.Codes.{Code, all_codes}
 use Rattle.cjc_verify.proofs.Codes.{all_rise}
 use Rattle.cjc_verify.specs.Bodies.{Body, bodies, bodies_of, listed}

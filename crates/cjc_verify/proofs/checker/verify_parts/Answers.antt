@@ -3,7 +3,7 @@ use Rattle.std.specs.Prelude.{option_map, option_to_list}
 use Rattle.cjc_bytes.proofs.Options.{on_ok}
 use Rattle.cjc_bytes.specs.Breaks.{IsFirstRefusal}
 use Rattle.cjc_bytes.specs.Told.{break_of}
-use Rattle.cjc_card_calls.specs.CheckIndex.Lookup.Parts.{complete_of}
+use Rattle.cjc_pairing.specs.CheckIndex.Lookup.Parts.{complete_of}
 use Rattle.cjc_verify.proofs.Firsts.{alone, none_broken}
 use Rattle.cjc_verify.proofs.Verified.{is_refused}
 use Rattle.cjc_verify.specs.Pairs.{pair_of}

@@ -2,9 +2,9 @@ use Rattle.std.proofs.Common.{◌≡◌, ◌∙◌, ℕ, List, map, refl, ap, su
 use Rattle.std.specs.Prelude.{IfOk}
 use Rattle.std.specs.List.{flat_map}
 use Rattle.cjc_classes.specs.ClassInfo.Refs.{ref_of}
-use Rattle.cjc_classes.specs.LowerClinit.Image.{field_id}
-use Rattle.cjc_classes.specs.Components.Statics.{cell_offset}
-use Rattle.cjc_card_calls.specs.ClassFile.declared.tree.ClassTree.{ClassTree}
+use Rattle.cjc_classes.specs.Clinit.Image.{field_id}
+use Rattle.cjc_classes.specs.LowerComponents.Statics.{cell_offset}
+use Rattle.cjc_world.specs.ClassFile.declared.tree.ClassTree.{ClassTree}
 use Rattle.cjc_verify.specs.Pairs.{Pair}
 use Rattle.cjc_verify.specs.WantedDescribed.{wanted_classes}
 use Rattle.cjc_verify.specs.WantedMembers.{Inputs, classes_by}

@@ -1,6 +1,6 @@
 use Rattle.std.proofs.Common.{◌≡◌, ◌∙◌, Bool, List, map, refl, sym, ap, subst}
 use Rattle.cjc_check_rules.specs.Spots.{first}
-use Rattle.cjc_classes.specs.Tokens.Tokens.{assigned}
+use Rattle.cjc_methods.specs.Tokens.Tokens.{assigned}
 use Rattle.cjc_world.specs.Classes.{Class}
 use Rattle.cjc_world.specs.Order.{class_order}
 use Rattle.cjc_verify.specs.Abstracts.{all_abstract_beside}

@@ -1,6 +1,6 @@
 use Rattle.std.proofs.Common.{◌++◌, List, map}
-use Rattle.cjc_methods.specs.Check.Codes.Bodies.{code_of}
-use Rattle.cjc_card_calls.specs.CheckIndex.Lookup.Parts.{complete_of}
+use Rattle.cjc_methods.specs.LowerCheck.Codes.Bodies.{code_of}
+use Rattle.cjc_pairing.specs.CheckIndex.Lookup.Parts.{complete_of}
 use Rattle.cjc_verify.proofs.Codes.{ascends_at}
 use Rattle.cjc_verify.proofs.ListedMethods.{bodies_short}
 use Rattle.cjc_verify.specs.Working.Bodies.{body_of}

@@ -1,6 +1,6 @@
 use Rattle.std.proofs.Common.{◌≡◌, drop}
 use Rattle.cjc_card_calls.specs.Files.Files.{classes_at}
-use Rattle.cjc_card_calls.specs.CardFrame.Kinds.{method_id}
+use Rattle.cjc_card_acts.specs.CardFrame.Kinds.{method_id}
 use Rattle.cjc_verify.specs.Named.{first_of, listed_as}
 use Rattle.cjc_verify.proofs.named.first_listed.Given as goal
 

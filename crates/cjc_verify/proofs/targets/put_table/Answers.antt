@@ -1,8 +1,8 @@
 use Rattle.std.proofs.Common.{List, ◌≡◌, ℕ, ap, [], ◌∷◌, ◌++◌, ◌∙◌, arith, length, map, rules}
 use Rattle.std.proofs.lemmas.Slice.{between_to_end}
 use Rattle.cjc_capread.specs.Decoder.Decoded.{numbers}
-use Rattle.cjc_card_calls.specs.CardSemantics.Machine.Operations.{moved}
-use Rattle.cjc_methods.specs.Check.Jumps.Offsets.{offsets_in}
+use Rattle.cjc_card_acts.specs.CardSemantics.Machine.Operations.{moved}
+use Rattle.cjc_methods.specs.LowerCheck.Jumps.Offsets.{offsets_in}
 use Rattle.cjc_verify.proofs.Jumps.{no_target_left, target_more}
 use Rattle.cjc_verify.proofs.targets.put_table.Goals as goal
 

@@ -1,7 +1,7 @@
 use Rattle.std.proofs.Common.{◌≡◌, ◌++◌, length, map}
 use Rattle.cjc_capread.specs.Decoder.Decoded.{numbers}
-use Rattle.cjc_card_calls.specs.CardSemantics.Machine.Operations.{moved}
-use Rattle.cjc_methods.specs.Check.Jumps.Offsets.{offsets_in}
+use Rattle.cjc_card_acts.specs.CardSemantics.Machine.Operations.{moved}
+use Rattle.cjc_methods.specs.LowerCheck.Jumps.Offsets.{offsets_in}
 use Rattle.cjc_verify.proofs.targets.put_table.Given as goal
 
 abbrev pub invariant-loop-rest : goal.invariant-loop-rest

@@ -1,8 +1,8 @@
-use Rattle.cjc_order.specs.ClassFile.declared.tree.ClassTree.{ClassTree as Tree}
+use Rattle.cjc_world.specs.ClassFile.declared.tree.ClassTree.{ClassTree as Tree}
 use Rattle.std.proofs.Common.{◌≡◌, ◌∙◌, ap, subst, false, map, get_or}
 use Rattle.std.proofs.lemmas.Option.{get_or_from_slice_get}
 use Rattle.cjc_world.specs.Classes.{all_classes, declared}
-use Rattle.cjc_tokens.specs.Bytes.AccessFlags.{is_interface}
+use Rattle.cjc_world.specs.Bytes.AccessFlags.{is_interface}
 use Rattle.cjc_world.specs.Interfaces.{known}
 use Rattle.cjc_tokens.specs.Lines.{line_at}
 use Rattle.cjc_tokens.specs.Methods.{interfaces_at}

@@ -1,6 +1,6 @@
 use Rattle.std.proofs.Common.{◌∙◌, ◌<◌, ℕ, sym, ap, subst, List, length, get_or, false, map}
 use Rattle.std.specs.Prelude.{Some, option_map}
-use Rattle.cjc_tokens.specs.Bytes.AccessFlags.{is_interface}
+use Rattle.cjc_world.specs.Bytes.AccessFlags.{is_interface}
 use Rattle.cjc_world.proofs.BytesBools.{not_true}
 use Rattle.cjc_world.specs.Files.{Files}
 use Rattle.cjc_world.specs.Classes.{all_classes, declared}

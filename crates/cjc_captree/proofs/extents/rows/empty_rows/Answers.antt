@@ -1,5 +1,5 @@
 use Rattle.std.proofs.Common.{◌≡◌, ◌∙◌, ◌<◌, ◌+◌, ◌++◌, ◌∷◌, [], ap, subst, List, drop, length, map, replicate}
-use Rattle.cjc_methods.specs.ClassFile.declared.tree.ClassTree.{ClassTree}
+use Rattle.cjc_classes.specs.ClassFile.declared.tree.ClassTree.{ClassTree}
 use Rattle.cjc_classes.specs.Descriptor.Made.{numbered}
 use Rattle.cjc_classes.specs.declared.descriptor.parts.Extent.{Extent}
 use Rattle.cjc_captree.specs.Working.Tables.{nowhere, row_of, table_of}

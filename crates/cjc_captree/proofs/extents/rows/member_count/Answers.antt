@@ -1,6 +1,6 @@
 use Rattle.std.proofs.Common.{◌≡◌, ◌∙◌, ap, List, get_or}
 use Rattle.std.proofs.lemmas.Option.{get_or_from_slice_get}
-use Rattle.cjc_methods.specs.ClassFile.declared.tree.ClassTree.{ClassTree}
+use Rattle.cjc_classes.specs.ClassFile.declared.tree.ClassTree.{ClassTree}
 use Rattle.cjc_captree.proofs.ExtentsLaws.Counting.{count_is}
 use Rattle.cjc_captree.proofs.extents.rows.member_count.Goals as goal
 

@@ -1,5 +1,5 @@
 use Rattle.std.proofs.Common.{◌≡◌, ◌∙◌, ap, arith, sym, List, length}
-use Rattle.cjc_classes.specs.World.Files.{Files}
+use Rattle.cjc_exported.specs.World.Files.{Files}
 use Rattle.cjc_classes.specs.declared.descriptor.parts.Extent.{Extent}
 use Rattle.cjc_methods.specs.declared.layouts.laid.Laid.{Laid}
 use Rattle.cjc_captree.specs.Working.Tables.{extents_by, found_in, nowhere, table_of}

@@ -1,5 +1,5 @@
 use Rattle.std.proofs.Common.{◌≡◌, ◌≤◌, drop, length}
-use Rattle.cjc_classes.specs.World.Files.{Files}
+use Rattle.cjc_exported.specs.World.Files.{Files}
 use Rattle.cjc_captree.specs.Working.Tables.{found_in, nowhere, table_of}
 use Rattle.cjc_captree.proofs.extents.table.put_extents.Given as goal
 

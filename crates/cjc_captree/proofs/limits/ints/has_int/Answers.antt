@@ -2,7 +2,7 @@ use Rattle.std.proofs.Common.{◌≡◌, ◌<◌, ◌∙◌, ap, sym, subst, ref
 use Rattle.std.specs.Prelude.{◌||◌, slice_get, Some}
 use Rattle.std.specs.List.{list_any}
 use Rattle.std.proofs.lemmas.Option.{slice_get_read}
-use Rattle.cjc_exported.specs.Subset.Types.{is_int_desc}
+use Rattle.cjc_classes.specs.Subset.Types.{is_int_desc}
 use Rattle.cjc_captree.proofs.LimitsLaws.IntMembers.{class_ints, has_file}
 use Rattle.cjc_captree.proofs.limits.ints.has_int.Goals as goal
 

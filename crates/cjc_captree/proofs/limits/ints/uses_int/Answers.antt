@@ -1,5 +1,5 @@
 use Rattle.std.proofs.Common.{◌∙◌, sym, false}
-use Rattle.cjc_classes.specs.World.Classes.{all_classes, class_at}
+use Rattle.cjc_exported.specs.World.Classes.{all_classes, class_at}
 use Rattle.cjc_captree.proofs.LimitsLaws.IntMembers.{ints_found, ints_more, ints_none, is_found, is_missing}
 use Rattle.cjc_captree.proofs.limits.ints.uses_int.Goals as goal
 

@@ -1,7 +1,7 @@
 use Rattle.std.proofs.Common.{◌≡◌, false, take}
 use Rattle.std.specs.List.{list_any}
-use Rattle.cjc_classes.specs.World.Classes.{all_classes}
-use Rattle.cjc_classes.specs.Components.Components.{has_int}
+use Rattle.cjc_exported.specs.World.Classes.{all_classes}
+use Rattle.cjc_exported.specs.Components.Components.{has_int}
 use Rattle.cjc_captree.proofs.LimitsLaws.IntMembers.{own}
 use Rattle.cjc_captree.proofs.limits.ints.uses_int.Given as goal
 

@@ -1,9 +1,9 @@
 use Rattle.std.proofs.Common.{◌≡◌, ◌∙◌, ap, arith, sym, subst, true, false}
 use Rattle.std.specs.Prelude.{nat_lt}
 use Rattle.std.proofs.lemmas.Bool.Decides.{nat_tests}
-use Rattle.cjc_classes.specs.Bytes.Breaks.{IsFirst, broken_at}
-use Rattle.cjc_methods.specs.CapWrite.Files.{limit_of}
-use Rattle.cjc_classes.specs.Components.Limits.{size_breaks}
+use Rattle.cjc_exported.specs.Bytes.Breaks.{IsFirst, broken_at}
+use Rattle.cjc_classes.specs.CapWrite.Files.{limit_of}
+use Rattle.cjc_exported.specs.Components.Limits.{size_breaks}
 use Rattle.cjc_captree.proofs.LimitsLaws.Widest.{breaks_limit, breaks_none, breaks_wide}
 use Rattle.cjc_captree.proofs.limits.limits.size_break.Goals as goal
 

@@ -1,11 +1,11 @@
 use Rattle.std.proofs.Common.{◌≡◌, ◌∙◌, ap, sym, subst, map, length}
 use Rattle.std.specs.Prelude.{nat_lt, Some}
-use Rattle.cjc_classes.specs.World.Files.{Files}
-use Rattle.cjc_classes.specs.World.Classes.{all_classes}
-use Rattle.cjc_classes.specs.World.Order.{class_order}
-use Rattle.cjc_exported.specs.Clinit.Image.{field_id}
-use Rattle.cjc_classes.specs.Components.Statics.{cell_offset}
-use Rattle.cjc_classes.specs.Components.Names.{class_ref}
+use Rattle.cjc_exported.specs.World.Files.{Files}
+use Rattle.cjc_exported.specs.World.Classes.{all_classes}
+use Rattle.cjc_exported.specs.World.Order.{class_order}
+use Rattle.cjc_classes.specs.Clinit.Image.{field_id}
+use Rattle.cjc_exported.specs.Components.Statics.{cell_offset}
+use Rattle.cjc_exported.specs.Components.Names.{class_ref}
 use Rattle.cjc_classes.specs.ClassInfo.Refs.{ref_of}
 use Rattle.cjc_classes.specs.TypeInfo.TypeTable.{class_at}
 use Rattle.cjc_captree.specs.Trees.Working.{offsets_in}

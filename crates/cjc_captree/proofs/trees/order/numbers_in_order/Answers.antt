@@ -1,6 +1,6 @@
 use Rattle.std.proofs.Common.{◌∙◌, ap, sym, map, true, false}
-use Rattle.cjc_classes.specs.World.Classes.{all_classes}
-use Rattle.cjc_classes.specs.World.Order.{class_order, in_order}
+use Rattle.cjc_exported.specs.World.Classes.{all_classes}
+use Rattle.cjc_exported.specs.World.Order.{class_order, in_order}
 use Rattle.cjc_classes.specs.TypeInfo.TypeTable.{class_at}
 use Rattle.cjc_captree.proofs.TreesLaws.Told.{both_told, told_by_file}
 use Rattle.cjc_captree.proofs.trees.order.numbers_in_order.Goals as goal

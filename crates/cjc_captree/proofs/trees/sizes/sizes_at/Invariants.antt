@@ -1,5 +1,5 @@
 use Rattle.std.proofs.Common.{◌≡◌, map, take, length}
-use Rattle.cjc_methods.specs.CapWrite.Size.{info_of}
+use Rattle.cjc_classes.specs.CapWrite.Size.{info_of}
 use Rattle.cjc_captree.proofs.trees.sizes.sizes_at.Given as goal
 
 abbrev pub invariant-loop-tag : goal.invariant-loop-tag

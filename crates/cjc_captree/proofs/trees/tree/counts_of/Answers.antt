@@ -1,7 +1,7 @@
 use Rattle.std.proofs.Common.{◌≡◌, ◌∙◌, sym, subst}
 use Rattle.std.specs.Prelude.{IfOk, Some}
-use Rattle.cjc_classes.specs.Components.Components.{directory_with, import}
-use Rattle.cjc_classes.specs.Components.Statics.{static_field}
+use Rattle.cjc_exported.specs.Components.Components.{directory_with, import}
+use Rattle.cjc_exported.specs.Components.Statics.{static_field}
 use Rattle.cjc_captree.proofs.TreesLaws.Trees.{applet_there, import_there, statics_there}
 use Rattle.cjc_captree.proofs.trees.tree.counts_of.Goals as goal
 

@@ -1,10 +1,10 @@
 use Rattle.std.proofs.Common.{◌≡◌, ◌∙◌, ap, sym, map, length}
 use Rattle.std.specs.Prelude.{nat_lt, Some}
-use Rattle.cjc_exported.specs.List.Listed.{ListTree}
-use Rattle.cjc_classes.specs.World.Files.{Files}
-use Rattle.cjc_classes.specs.World.Order.{class_order}
-use Rattle.cjc_classes.specs.Tokens.Tokens.{assigned}
-use Rattle.cjc_classes.specs.Components.Package.{world}
+use Rattle.cjc_classes.specs.List.Listed.{ListTree}
+use Rattle.cjc_exported.specs.World.Files.{Files}
+use Rattle.cjc_exported.specs.World.Order.{class_order}
+use Rattle.cjc_methods.specs.Tokens.Tokens.{assigned}
+use Rattle.cjc_exported.specs.Components.Package.{world}
 use Rattle.cjc_classes.specs.ClassInfo.Refs.{ref_of}
 use Rattle.cjc_classes.specs.TypeInfo.TypeTable.{AreOf, class_at}
 use Rattle.cjc_captree.proofs.trees.tree.descriptor_of.Goals as goal

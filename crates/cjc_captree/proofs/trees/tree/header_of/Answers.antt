@@ -1,7 +1,7 @@
 use Rattle.std.proofs.Common.{◌∙◌, ap, sym}
-use Rattle.cjc_classes.specs.World.Files.{Files}
-use Rattle.cjc_classes.specs.World.Classes.{all_classes}
-use Rattle.cjc_classes.specs.Components.Components.{uses_int}
+use Rattle.cjc_exported.specs.World.Files.{Files}
+use Rattle.cjc_exported.specs.World.Classes.{all_classes}
+use Rattle.cjc_exported.specs.Components.Components.{uses_int}
 use Rattle.cjc_captree.proofs.trees.tree.header_of.Goals as goal
 
 pub returns : goal.returns

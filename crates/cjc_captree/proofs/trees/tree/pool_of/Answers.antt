@@ -1,10 +1,10 @@
 use Rattle.std.proofs.Common.{◌∙◌, ap, sym, subst, map, length}
 use Rattle.std.specs.Prelude.{nat_lt}
-use Rattle.cjc_exported.specs.List.Listed.{ListTree}
-use Rattle.cjc_classes.specs.World.Files.{Files}
-use Rattle.cjc_classes.specs.Tokens.Tokens.{assigned}
-use Rattle.cjc_classes.specs.Components.Package.{pool}
-use Rattle.cjc_classes.specs.Components.Statics.{cell_offset}
+use Rattle.cjc_classes.specs.List.Listed.{ListTree}
+use Rattle.cjc_exported.specs.World.Files.{Files}
+use Rattle.cjc_methods.specs.Tokens.Tokens.{assigned}
+use Rattle.cjc_exported.specs.Components.Package.{pool}
+use Rattle.cjc_exported.specs.Components.Statics.{cell_offset}
 use Rattle.cjc_classes.specs.ClassInfo.Entries.{AreOffsets}
 use Rattle.cjc_classes.specs.Descriptor.Keys.{key_cell}
 use Rattle.cjc_captree.proofs.TreesLaws.Trees.{cells_by_key}

@@ -1,6 +1,6 @@
 use Rattle.std.proofs.Common.{◌∙◌, ap, sym, subst}
 use Rattle.std.specs.Prelude.{Some}
-use Rattle.cjc_classes.specs.Components.Statics.{static_field}
+use Rattle.cjc_exported.specs.Components.Statics.{static_field}
 use Rattle.cjc_classes.specs.ClassInfo.Entries.{AreOffsets}
 use Rattle.cjc_captree.proofs.trees.tree.put_members.Goals as goal
 

@@ -1,5 +1,5 @@
 use Rattle.std.proofs.Common.{◌≡◌, drop, map}
-use Rattle.cjc_card_calls.specs.CardLink.Group.{group_part}
+use Rattle.cjc_card_calls.specs.LowerCardLink.Group.{group_part}
 use Rattle.cjc_card_calls.specs.Lines.Handlers.{are_parts_near}
 use Rattle.cjc_card.proofs.group.group.check_all_handlers.Given as goal
 

@@ -1,7 +1,7 @@
 use Rattle.std.proofs.Common.{◌≡◌, ◌++◌, map, take}
 use Rattle.cjc_card_semantics.specs.Machine.ByToken.{shown_field}
 use Rattle.cjc_card_frame.specs.Objects.{class_of, slot_by}
-use Rattle.cjc_card_calls.specs.CardLink.Names.{field_name_of}
+use Rattle.cjc_card_calls.specs.LowerCardLink.Names.{field_name_of}
 use Rattle.cjc_card.proofs.group.shown.put_declared.Given as goal
 
 abbrev pub invariant-loop-field : goal.invariant-loop-field

@@ -1,7 +1,7 @@
 use Rattle.std.proofs.Common.{◌≡◌, ◌+◌, ◌≤◌, List, ap, subst}
 use Rattle.std.specs.Prelude.{IfOk}
 use Rattle.std.proofs.lemmas.Result.{IfOk-weaker}
-use Rattle.cjc_card_frame.specs.CapRead.Decoder.Decoded.{instruction_of}
+use Rattle.cjc_card_semantics.specs.CapRead.Decoder.Decoded.{instruction_of}
 use Rattle.cjc_card_frame.specs.Kinds.{code_of}
 use Rattle.cjc_card_step.specs.Effects.Deeds.{memory}
 use Rattle.cjc_card.specs.Acts.States.{FrameByToken, StateByToken}

@@ -1,6 +1,6 @@
 use Rattle.std.proofs.Common.{◌≡◌, ℕ, ◌+◌, List, ap, sym, ◌∙◌, subst}
 use Rattle.std.proofs.lemmas.Result.{IfOk-weaker}
-use Rattle.cjc_card_frame.specs.CapRead.Decoder.Decoded.{instruction_of}
+use Rattle.cjc_card_semantics.specs.CapRead.Decoder.Decoded.{instruction_of}
 use Rattle.cjc_card_semantics.specs.Bytecode.Machine.{StuckAt, turn_after_fetch}
 use Rattle.cjc_card_semantics.specs.Machine.ByToken.{by_token}
 use Rattle.cjc_card_frame.specs.Kinds.{code_of}

@@ -1,5 +1,5 @@
 use Rattle.std.proofs.Common.{◌≡◌, ◌+◌, ◌≤◌, ◌*◌, map, drop}
-use Rattle.cjc_card_frame.specs.Script.Sorts.{sort_of}
+use Rattle.cjc_card_semantics.specs.Script.Sorts.{sort_of}
 use Rattle.cjc_card_semantics.specs.Bytecode.Arguments.{widths}
 use Rattle.cjc_card_calls.proofs.calls.arguments.widths.Given as goal
 

@@ -1,7 +1,7 @@
 use Rattle.std.proofs.Common.{◌≡◌, drop}
 use Rattle.std.specs.Prelude.{◌==◌, ◌&&◌}
 use Rattle.std.specs.List.{find}
-use Rattle.cjc_card_frame.specs.ExportFile.Supers.{is_virtual}
+use Rattle.cjc_card_semantics.specs.ExportFile.Supers.{is_virtual}
 use Rattle.cjc_card_calls.proofs.calls.imported.virtual_method.Given as goal
 
 abbrev pub invariant-loop-method : goal.invariant-loop-method

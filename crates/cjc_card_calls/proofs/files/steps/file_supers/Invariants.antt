@@ -1,5 +1,5 @@
 use Rattle.std.proofs.Common.{◌≡◌, ◌+◌, drop}
-use Rattle.cjc_card_frame.specs.ExportFile.Supers.{super_count}
+use Rattle.cjc_card_semantics.specs.ExportFile.Supers.{super_count}
 use Rattle.cjc_card_calls.proofs.files.steps.file_supers.Given as goal
 
 abbrev pub invariant-loop-class : goal.invariant-loop-class

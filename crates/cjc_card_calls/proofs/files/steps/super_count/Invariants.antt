@@ -1,5 +1,5 @@
 use Rattle.std.proofs.Common.{◌≡◌, ◌+◌, drop}
-use Rattle.cjc_card_frame.specs.ExportFile.Supers.{classes_of, super_count}
+use Rattle.cjc_card_semantics.specs.ExportFile.Supers.{classes_of, super_count}
 use Rattle.cjc_card_calls.proofs.files.steps.super_count.Given as goal
 
 abbrev pub invariant-loop-tree : goal.invariant-loop-tree

@@ -1,5 +1,5 @@
 use Rattle.std.proofs.Common.{ℕ, suc, ◌+◌, ◌-◌, ◌≡◌, length, ap, ◌∙◌, sym, arith, List}
-use Rattle.cjc_card_frame.specs.ExportFile.Supers.{super_count}
+use Rattle.cjc_card_semantics.specs.ExportFile.Supers.{super_count}
 use Rattle.cjc_card_calls.specs.Files.Climbs.{climbed}
 use Rattle.cjc_card_calls.specs.Files.Named.{is_passed}
 use Rattle.cjc_card_calls.proofs.FilesLaws.Climbing.{climb_begun, line_done, line_full}

@@ -1,5 +1,5 @@
 use Rattle.std.proofs.Common.{◌++◌, List, ap, ◌∙◌, map}
-use Rattle.cjc_card_frame.specs.ExportFile.declared.tree.ExportTree.{ExportTree}
+use Rattle.cjc_card_semantics.specs.ExportFile.declared.tree.ExportTree.{ExportTree}
 use Rattle.cjc_card_semantics.specs.Machine.Classes.{Class, is_in}
 use Rattle.cjc_card_frame.specs.declared.heap.class.Class.{Class as ClassData}
 use Rattle.cjc_card_frame.specs.Objects.{class_of}

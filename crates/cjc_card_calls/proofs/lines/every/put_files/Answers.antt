@@ -1,5 +1,5 @@
 use Rattle.std.proofs.Common.{◌++◌, ℕ, List, refl, ap, ◌∙◌, map, arith}
-use Rattle.cjc_card_frame.specs.ExportFile.declared.tree.ExportClass.{ExportClass}
+use Rattle.cjc_card_semantics.specs.ExportFile.declared.tree.ExportClass.{ExportClass}
 use Rattle.cjc_card_semantics.specs.Machine.Classes.{External}
 use Rattle.cjc_card_frame.specs.Objects.{class_of}
 use Rattle.cjc_card_calls.specs.Lines.Every.{files_classes}

@@ -1,5 +1,5 @@
 use Rattle.std.proofs.Common.{◌∙◌, List, sym, ap}
-use Rattle.cjc_card_frame.specs.CapRead.declared.tree.Handler.{Handler}
+use Rattle.cjc_card_semantics.specs.CapRead.declared.tree.Handler.{Handler}
 use Rattle.cjc_card_frame.specs.Objects.{shape_of}
 use Rattle.cjc_card_frame.specs.Kinds.{code_of}
 use Rattle.cjc_card_link.specs.Group.{part_with}

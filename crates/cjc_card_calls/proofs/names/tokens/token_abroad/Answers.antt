@@ -1,6 +1,6 @@
 use Rattle.std.proofs.Common.{List, ap, ◌∙◌, Some}
 use Rattle.std.specs.Prelude.{option_map}
-use Rattle.cjc_card_frame.specs.ExportFile.declared.tree.ExportClass.{ExportClass}
+use Rattle.cjc_card_semantics.specs.ExportFile.declared.tree.ExportClass.{ExportClass}
 use Rattle.cjc_card_semantics.specs.Machine.Calls.{token_in_files}
 use Rattle.cjc_card_semantics.specs.Machine.Dispatch.{Open}
 use Rattle.cjc_card_calls.proofs.names.tokens.token_abroad.Goals as goal

@@ -4,8 +4,8 @@ use Rattle.std.specs.Int.{w32}
 use Rattle.std.proofs.lemmas.Int.{to_z-of_z}
 use Rattle.cjc_card_semantics.specs.Bytecode.Effects.{arm_of}
 use Rattle.cjc_card_semantics.specs.Machine.Operations.{paired}
-use Rattle.cjc_jvm_step.specs.CapRead.Decoder.Decoded.{numbers}
-use Rattle.cjc_jvm_step.specs.CapRead.Decoder.Shapes.{entry_size, matches_of}
+use Rattle.cjc_card_semantics.specs.CapRead.Decoder.Decoded.{numbers}
+use Rattle.cjc_card_semantics.specs.CapRead.Decoder.Shapes.{entry_size, matches_of}
 use Rattle.cjc_card_semantics.proofs.CapReadTables.{numbers_less}
 use Rattle.cjc_card_frame.proofs.fetch.switches.arm_of_pairs.Goals as goal
 

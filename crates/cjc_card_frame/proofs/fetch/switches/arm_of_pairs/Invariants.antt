@@ -1,8 +1,8 @@
 use Rattle.std.proofs.Common.{◌≡◌, length}
 use Rattle.cjc_card_semantics.specs.Bytecode.Effects.{arm_of}
 use Rattle.cjc_card_semantics.specs.Machine.Operations.{paired}
-use Rattle.cjc_jvm_step.specs.CapRead.Decoder.Decoded.{numbers}
-use Rattle.cjc_jvm_step.specs.CapRead.Decoder.Shapes.{matches_of}
+use Rattle.cjc_card_semantics.specs.CapRead.Decoder.Decoded.{numbers}
+use Rattle.cjc_card_semantics.specs.CapRead.Decoder.Shapes.{matches_of}
 use Rattle.cjc_card_frame.proofs.fetch.switches.arm_of_pairs.Given as goal
 
 abbrev pub invariant-loop-rest : goal.invariant-loop-rest

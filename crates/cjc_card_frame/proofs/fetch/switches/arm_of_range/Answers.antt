@@ -4,8 +4,8 @@ use Rattle.std.specs.Int.{w32}
 use Rattle.std.proofs.lemmas.Int.{to_z-of_z}
 use Rattle.cjc_card_semantics.specs.Bytecode.Effects.{with_some}
 use Rattle.cjc_card_semantics.specs.Machine.Operations.{moved}
-use Rattle.cjc_jvm_step.specs.CapRead.declared.decoder.table.Matches.TheVariants.{Counted}
-use Rattle.cjc_jvm_step.specs.CapRead.Decoder.Decoded.{numbers}
+use Rattle.cjc_card_semantics.specs.CapRead.declared.decoder.table.Matches.TheVariants.{Counted}
+use Rattle.cjc_card_semantics.specs.CapRead.Decoder.Decoded.{numbers}
 use Rattle.cjc_card_frame.proofs.FetchLaws.Ranges.{below, above}
 use Rattle.cjc_card_frame.proofs.fetch.switches.arm_of_range.Goals as goal
 

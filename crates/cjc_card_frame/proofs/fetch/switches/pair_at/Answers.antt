@@ -2,10 +2,10 @@ use Rattle.std.proofs.Common.{rules, ◌-◌, ◌∷◌, ap, sym, ◌∙◌, dro
 use Rattle.std.specs.Prelude.{FitsSigned}
 use Rattle.std.specs.Int.{w32, cast_signed, cast_unsigned}
 use Rattle.std.proofs.lemmas.Int.{to_z-of_z}
-use Rattle.cjc_jvm_step.specs.CapRead.Opcodes.{Operand, Signed2}
-use Rattle.cjc_jvm_step.specs.CapRead.Decode.{operand}
-use Rattle.cjc_jvm_step.specs.CapRead.Decoder.Decoded.{numbers}
-use Rattle.cjc_jvm_step.specs.CapRead.Decoder.Shapes.{entry_size, matches_of}
+use Rattle.cjc_card_semantics.specs.CapRead.Opcodes.{Operand, Signed2}
+use Rattle.cjc_card_semantics.specs.CapRead.Decode.{operand}
+use Rattle.cjc_card_semantics.specs.CapRead.Decoder.Decoded.{numbers}
+use Rattle.cjc_card_semantics.specs.CapRead.Decoder.Shapes.{entry_size, matches_of}
 use Rattle.cjc_card_frame.proofs.FetchLaws.Pairs.{pair_is}
 use Rattle.cjc_card_frame.proofs.fetch.switches.pair_at.Goals as goal
 

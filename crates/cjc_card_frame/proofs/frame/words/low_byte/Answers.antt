@@ -2,7 +2,7 @@ use Rattle.std.proofs.Common.{◌≡◌, rules, subst, sym, ◌∙◌, arith}
 use Rattle.std.specs.Prelude.{FitsSigned}
 use Rattle.std.specs.Int.{w16, w32}
 use Rattle.std.proofs.lemmas.Int.{to_z-of_z}
-use Rattle.cjc_jvm_step.specs.Range.Words.{low_byte}
+use Rattle.cjc_card_semantics.specs.Range.Words.{low_byte}
 use Rattle.cjc_card_semantics.proofs.RangeWords.{low_byte_fits}
 use Rattle.cjc_card_frame.proofs.frame.words.low_byte.Goals as goal
 

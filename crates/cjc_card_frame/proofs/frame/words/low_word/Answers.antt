@@ -2,7 +2,7 @@ use Rattle.std.proofs.Common.{◌≡◌, rules, subst, sym, ◌∙◌}
 use Rattle.std.specs.Prelude.{FitsSigned}
 use Rattle.std.specs.Int.{w16, w32}
 use Rattle.std.proofs.lemmas.Int.{to_z-of_z, SFits-int_wrap}
-use Rattle.cjc_jvm_step.specs.Range.Words.{low_word}
+use Rattle.cjc_card_semantics.specs.Range.Words.{low_word}
 use Rattle.cjc_card_frame.proofs.frame.words.low_word.Goals as goal
 
 pub returns-clause-fits : goal.returns-clause-fits

@@ -2,7 +2,7 @@ use Rattle.std.proofs.Common.{rules, ◌≡◌, ap, ◌∙◌, pos, ◌+ℤ◌, 
 use Rattle.std.specs.Prelude.{FitsSigned}
 use Rattle.std.specs.Int.{w32, int_rem_euclid}
 use Rattle.std.proofs.lemmas.Int.{to_z-of_z}
-use Rattle.cjc_jvm_step.specs.Range.Words.{wide}
+use Rattle.cjc_card_semantics.specs.Range.Words.{wide}
 use Rattle.cjc_card_frame.proofs.FrameLaws.Cuts.{spelt_is}
 use Rattle.cjc_card_frame.proofs.frame.words.spelt_by.Goals as goal
 

@@ -2,7 +2,7 @@ use Rattle.std.proofs.Common.{◌≡◌, rules, ap, ◌∙◌}
 use Rattle.std.specs.Prelude.{FitsSigned}
 use Rattle.std.specs.Int.{w32}
 use Rattle.std.proofs.lemmas.Int.{to_z-of_z}
-use Rattle.cjc_jvm_step.specs.Range.Words.{low_word, wide}
+use Rattle.cjc_card_semantics.specs.Range.Words.{low_word, wide}
 use Rattle.cjc_card_frame.specs.Meanings.{exact}
 use Rattle.cjc_card_frame.proofs.FrameLaws.Cuts.{exact_word}
 use Rattle.cjc_card_frame.proofs.frame.words.word_of.Goals as goal

@@ -1,6 +1,6 @@
 use Rattle.std.proofs.Common.{◌≡◌, ◌<◌, ◌-◌, ◌∙◌, ◌++◌, ◌∷◌, [], suc, ap, sym, subst, arith, List}
 use Rattle.std.specs.List.{All}
-use Rattle.cjc_card_semantics.specs.LowerScript.declared.value.Value.{Value}
+use Rattle.cjc_card_semantics.specs.Script.declared.value.Value.{Value}
 use Rattle.cjc_card_frame.specs.Frame.Frames.{IsWord}
 use Rattle.cjc_card_frame.proofs.FramesLaws.Cells.{one_taken, all_and}
 use Rattle.cjc_card_frame.proofs.frames.taking.arguments.Goals as goal

@@ -1,7 +1,7 @@
 use Rattle.std.proofs.Common.{◌≡◌, ◌<◌, ◌+◌, ◌∙◌, ◌++◌, ◌∷◌, [], ap, sym, subst, List}
 use Rattle.std.specs.Prelude.{Option, Some, slice_get}
 use Rattle.std.specs.List.{All}
-use Rattle.cjc_card_semantics.specs.LowerScript.declared.value.Value.{Value}
+use Rattle.cjc_card_semantics.specs.Script.declared.value.Value.{Value}
 use Rattle.cjc_card_frame.specs.Frame.Frames.{IsLocal}
 use Rattle.cjc_card_frame.proofs.FramesLaws.Cells.{all_and, cell_fits, cell_is, cells_by, one_more}
 use Rattle.cjc_card_frame.proofs.frames.taking.locals_of.Goals as goal

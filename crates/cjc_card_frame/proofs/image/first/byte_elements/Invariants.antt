@@ -1,5 +1,5 @@
 use Rattle.std.proofs.Common.{◌≡◌, ◌++◌, length}
-use Rattle.cjc_card_semantics.specs.LowerScript.Sorts.{Bytes}
+use Rattle.cjc_card_semantics.specs.Script.Sorts.{Bytes}
 use Rattle.cjc_card_semantics.specs.Machine.Statics.{elements}
 use Rattle.cjc_card_frame.proofs.image.first.byte_elements.Given as goal
 

@@ -1,5 +1,5 @@
 use Rattle.std.proofs.Common.{◌≡◌, ◌++◌, replicate}
-use Rattle.cjc_card_semantics.specs.LowerScript.declared.value.Value.TheVariants.{Null}
+use Rattle.cjc_card_semantics.specs.Script.declared.value.Value.TheVariants.{Null}
 use Rattle.cjc_card_semantics.specs.Machine.Statics.{objects_from}
 use Rattle.cjc_card_frame.proofs.image.first.first_references.Given as goal
 

@@ -1,5 +1,5 @@
 use Rattle.std.proofs.Common.{◌≡◌, ◌++◌, length}
-use Rattle.cjc_card_semantics.specs.LowerScript.Sorts.{Shorts}
+use Rattle.cjc_card_semantics.specs.Script.Sorts.{Shorts}
 use Rattle.cjc_card_semantics.specs.Machine.Statics.{elements}
 use Rattle.cjc_card_frame.proofs.image.first.short_elements.Given as goal
 

@@ -1,5 +1,5 @@
 use Rattle.std.proofs.Common.{ℕ, List, length, ap, ◌∙◌}
-use Rattle.cjc_check_index.specs.CapRead.declared.tree.ClassInfo.{ClassInfo}
+use Rattle.cjc_card_semantics.specs.CapRead.declared.tree.ClassInfo.{ClassInfo}
 use Rattle.cjc_card_link.specs.Infos.{infos_in}
 use Rattle.cjc_card_link.proofs.InfoPlaces.{count_is_small, starts_count}
 use Rattle.cjc_card_link.proofs.infos.Infos.count.Goals as goal

@@ -1,6 +1,6 @@
 use Rattle.std.proofs.Common.{ℕ, List, ap, ◌∙◌}
 use Rattle.std.specs.Prelude.{slice_get}
-use Rattle.cjc_check_index.specs.CapRead.declared.tree.ClassInfo.{ClassInfo}
+use Rattle.cjc_card_semantics.specs.CapRead.declared.tree.ClassInfo.{ClassInfo}
 use Rattle.cjc_card_semantics.specs.Machine.Classes.{offset_from}
 use Rattle.cjc_card_link.specs.Infos.{infos_in}
 use Rattle.cjc_card_link.proofs.InfoPlaces.{found_is_small, offset_place}

@@ -1,5 +1,5 @@
 use Rattle.std.proofs.Common.{ap, ◌∙◌}
-use Rattle.cjc_check_index.specs.CapRead.declared.tree.ClassInfo.{ClassInfo}
+use Rattle.cjc_card_semantics.specs.CapRead.declared.tree.ClassInfo.{ClassInfo}
 use Rattle.cjc_card_link.specs.Described.{bytes_among}
 use Rattle.cjc_card_link.proofs.package.Package.new.Goals as goal
 

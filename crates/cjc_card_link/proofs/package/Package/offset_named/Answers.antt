@@ -1,6 +1,6 @@
 use Rattle.std.proofs.Common.{ap, ◌∙◌}
 use Rattle.std.specs.Prelude.{option_and_then}
-use Rattle.cjc_check_index.specs.CapRead.declared.tree.ClassInfo.{ClassInfo}
+use Rattle.cjc_card_semantics.specs.CapRead.declared.tree.ClassInfo.{ClassInfo}
 use Rattle.cjc_card_semantics.specs.Machine.Classes.{number_named, offset_from, offset_of}
 use Rattle.cjc_card_semantics.specs.Machine.Loaded.{Part}
 use Rattle.cjc_card_link.specs.Infos.{infos_in}

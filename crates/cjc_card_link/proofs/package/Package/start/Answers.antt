@@ -1,6 +1,6 @@
 use Rattle.std.proofs.Common.{refl, sym, ap, ◌∙◌, Some, None}
 use Rattle.std.specs.Prelude.{map}
-use Rattle.cjc_check_index.specs.CapRead.Decoder.Decoded.{header_of}
+use Rattle.cjc_card_semantics.specs.CapRead.Decoder.Decoded.{header_of}
 use Rattle.cjc_card_semantics.specs.Machine.Methods.{start_in}
 use Rattle.cjc_card_link.specs.Described.{bytes_among}
 use Rattle.cjc_card_link.specs.Group.{import_of, part_with}

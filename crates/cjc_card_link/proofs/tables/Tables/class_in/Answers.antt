@@ -1,5 +1,5 @@
 use Rattle.std.proofs.Common.{ap, sym, ◌∙◌}
-use Rattle.cjc_check_index.specs.CapRead.declared.tree.ClassRef.TheVariants.{Outside}
+use Rattle.cjc_card_semantics.specs.CapRead.declared.tree.ClassRef.TheVariants.{Outside}
 use Rattle.cjc_card_semantics.specs.Machine.Classes.{class_of}
 use Rattle.cjc_card_link.specs.Tables.{loaded_of}
 use Rattle.cjc_card_link.proofs.tables.Tables.class_in.Goals as goal

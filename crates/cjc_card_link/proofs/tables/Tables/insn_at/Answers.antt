@@ -1,6 +1,6 @@
 use Rattle.std.proofs.Common.{ap, sym}
 use Rattle.std.specs.Prelude.{option_and_then, option_map}
-use Rattle.cjc_check_index.specs.CapRead.Decoder.Decoded.{instruction_of}
+use Rattle.cjc_card_semantics.specs.CapRead.Decoder.Decoded.{instruction_of}
 use Rattle.cjc_card_semantics.specs.Machine.Methods.{fetched_in}
 use Rattle.cjc_card_frame.specs.Kinds.{code_of}
 use Rattle.cjc_card_link.specs.Tables.{loaded_of}

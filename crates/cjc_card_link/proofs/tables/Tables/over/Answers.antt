@@ -1,5 +1,5 @@
 use Rattle.std.proofs.Common.{◌<◌, ◌^◌, List, length, ap, ◌∙◌, subst}
-use Rattle.cjc_card_frame.specs.ExportFile.declared.tree.ExportTree.{ExportTree}
+use Rattle.cjc_card_semantics.specs.ExportFile.declared.tree.ExportTree.{ExportTree}
 use Rattle.cjc_card_semantics.specs.Machine.Classes.{info_count}
 use Rattle.cjc_card_semantics.specs.Machine.Loaded.{Part}
 use Rattle.cjc_card_link.proofs.tables.Tables.over.Goals as goal

@@ -1,5 +1,5 @@
 use Rattle.std.proofs.Common.{List, ap, ◌∙◌, to_z-of_z}
-use Rattle.cjc_check_index.specs.CapRead.declared.tree.PoolEntry.{PoolEntry}
+use Rattle.cjc_card_semantics.specs.CapRead.declared.tree.PoolEntry.{PoolEntry}
 use Rattle.cjc_card_semantics.specs.Machine.Operations.{entry}
 use Rattle.cjc_card_link.proofs.tables.Tables.pool_entry.Goals as goal
 

@@ -1,6 +1,6 @@
 use Rattle.std.proofs.Common.{◌++◌, List, map, ap, ◌∙◌, Option}
 use Rattle.std.specs.Prelude.{option_to_list}
-use Rattle.cjc_check_index.specs.CapRead.declared.tree.ImplementedInterface.{ImplementedInterface}
+use Rattle.cjc_card_semantics.specs.CapRead.declared.tree.ImplementedInterface.{ImplementedInterface}
 use Rattle.cjc_card_semantics.specs.Machine.Classes.{Class, class_of as class_by_ref, some_of}
 use Rattle.cjc_card_frame.specs.Objects.{class_of}
 use Rattle.cjc_card_link.specs.Tables.{loaded_of}

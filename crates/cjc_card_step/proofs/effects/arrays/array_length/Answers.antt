@@ -2,9 +2,9 @@ use Rattle.std.proofs.Common.{rules, ◌≡◌, ◌∙◌, ap, sym, drop, pos, �
 use Rattle.std.specs.Prelude.{FitsSigned}
 use Rattle.std.specs.Int.{w32, cast_signed, cast_unsigned}
 use Rattle.std.proofs.lemmas.Int.{to_z-of_z}
-use Rattle.cjc_card_frame.specs.Range.Words.{low_word}
-use Rattle.cjc_card_frame.specs.Script.declared.value.Value.{Value}
-use Rattle.cjc_card_frame.specs.Script.declared.value.Value.TheVariants.{Num}
+use Rattle.cjc_card_semantics.specs.Range.Words.{low_word}
+use Rattle.cjc_card_semantics.specs.Script.declared.value.Value.{Value}
+use Rattle.cjc_card_semantics.specs.Script.declared.value.Value.TheVariants.{Num}
 use Rattle.cjc_card_semantics.specs.Bytecode.Effects.{Go, Stick, length_in, thing_of, with_some}
 use Rattle.cjc_card_frame.specs.Frame.Frames.{Words}
 use Rattle.cjc_card_step.specs.Effects.Deeds.{EffectByToken, MemoryByToken, memory}

@@ -2,7 +2,7 @@ use Rattle.std.proofs.Common.{rules, ◌≡◌, ◌∙◌, ap, ◌%◌, arith, p
 use Rattle.std.specs.Prelude.{FitsSigned}
 use Rattle.std.specs.Int.{w32, cast_signed, cast_unsigned}
 use Rattle.std.proofs.lemmas.Int.{ints, to_z-of_z}
-use Rattle.cjc_card_frame.specs.Range.Words.{low_word}
+use Rattle.cjc_card_semantics.specs.Range.Words.{low_word}
 use Rattle.cjc_card_step.proofs.EffectsLaws.Stacks.{low_mod}
 use Rattle.cjc_card_step.proofs.effects.arrays.low_word_of.Goals as goal
 

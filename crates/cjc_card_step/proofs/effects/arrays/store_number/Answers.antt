@@ -2,8 +2,8 @@ use Rattle.std.proofs.Common.{rules, ◌≡◌, ◌∙◌, ◌+◌, ap, sym, dro
 use Rattle.std.specs.Prelude.{FitsSigned, slice_get, slice_set}
 use Rattle.std.specs.Int.{w32, cast_signed, cast_unsigned}
 use Rattle.std.proofs.lemmas.Int.{to_z-of_z}
-use Rattle.cjc_card_frame.specs.Script.declared.value.Value.{Value}
-use Rattle.cjc_card_frame.specs.Script.Sorts.{Element}
+use Rattle.cjc_card_semantics.specs.Script.declared.value.Value.{Value}
+use Rattle.cjc_card_semantics.specs.Script.Sorts.{Element}
 use Rattle.cjc_card_semantics.specs.Bytecode.Calculations.{one_number, one_value}
 use Rattle.cjc_card_semantics.specs.Bytecode.Effects.{Go, Numbers, Stick, item_of, with_thing}
 use Rattle.cjc_card_frame.specs.Frame.Frames.{Words}

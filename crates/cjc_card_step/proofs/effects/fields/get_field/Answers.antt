@@ -1,5 +1,5 @@
 use Rattle.std.proofs.Common.{◌∙◌, sym, drop, ℕ, List}
-use Rattle.cjc_card_frame.specs.Script.declared.value.Value.{Value}
+use Rattle.cjc_card_semantics.specs.Script.declared.value.Value.{Value}
 use Rattle.cjc_card_semantics.specs.Bytecode.Effects.{Slot, Stick, onward, words_of}
 use Rattle.cjc_card_semantics.specs.Machine.Classes.{Class, Field}
 use Rattle.cjc_card_frame.specs.Meanings.{letter_of}

@@ -1,6 +1,6 @@
 use Rattle.std.proofs.Common.{◌≡◌, ◌∙◌, ap, sym, drop, refl, ℕ, List, Bool, true, false}
 use Rattle.std.specs.Prelude.{if◌then◌else◌, slice_get}
-use Rattle.cjc_card_frame.specs.Script.declared.value.Value.{Value}
+use Rattle.cjc_card_semantics.specs.Script.declared.value.Value.{Value}
 use Rattle.cjc_card_semantics.specs.Bytecode.Effects.{Slot, Go, Object, Stick, object_in, put_slot, receiver, same_kind}
 use Rattle.cjc_card_semantics.specs.Bytecode.Effects.{slot_of, slots_with, thing_of, with_thing}
 use Rattle.cjc_card_semantics.specs.Machine.Classes.{Class, Field, same_field}

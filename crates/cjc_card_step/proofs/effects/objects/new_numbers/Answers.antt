@@ -2,7 +2,7 @@ use Rattle.std.proofs.Common.{rules, ◌≡◌, ◌∙◌, ap, sym, drop, pos, �
 use Rattle.std.specs.Prelude.{FitsSigned, Some, unsigned_abs}
 use Rattle.std.specs.Int.{w32, cast_signed, cast_unsigned}
 use Rattle.std.proofs.lemmas.Int.{ints, to_z-of_z}
-use Rattle.cjc_card_frame.specs.Script.declared.value.Value.{Value}
+use Rattle.cjc_card_semantics.specs.Script.declared.value.Value.{Value}
 use Rattle.cjc_card_semantics.specs.Bytecode.Effects.{Numbers, Stick, made, sized}
 use Rattle.cjc_card_frame.proofs.FrameLaws.Tops.{top_number}
 use Rattle.cjc_card_frame.specs.Objects.{element_of}

@@ -2,8 +2,8 @@ use Rattle.std.proofs.Common.{rules, ◌≡◌, ◌∙◌, ap, sym, drop, pos, �
 use Rattle.std.specs.Prelude.{FitsSigned, Some, unsigned_abs}
 use Rattle.std.specs.Int.{w32, cast_signed, cast_unsigned}
 use Rattle.std.proofs.lemmas.Int.{ints, to_z-of_z}
-use Rattle.cjc_card_frame.specs.Script.declared.value.Value.{Value}
-use Rattle.cjc_card_frame.specs.Script.declared.value.Value.TheVariants.{Null}
+use Rattle.cjc_card_semantics.specs.Script.declared.value.Value.{Value}
+use Rattle.cjc_card_semantics.specs.Script.declared.value.Value.TheVariants.{Null}
 use Rattle.cjc_card_semantics.specs.Bytecode.Effects.{References, Stick, made, sized}
 use Rattle.cjc_card_frame.proofs.FrameLaws.Tops.{top_number}
 use Rattle.cjc_card_frame.specs.Objects.{class_of}

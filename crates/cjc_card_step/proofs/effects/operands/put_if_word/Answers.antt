@@ -2,7 +2,7 @@ use Rattle.std.proofs.Common.{rules, ◌≡◌, ◌∙◌, ap, drop, true, [], �
 use Rattle.std.specs.Prelude.{FitsSigned, if◌then◌else◌}
 use Rattle.std.specs.Int.{w32}
 use Rattle.std.proofs.lemmas.Int.{ints, to_z-of_z}
-use Rattle.cjc_card_frame.specs.Script.declared.value.Value.TheVariants.{Num}
+use Rattle.cjc_card_semantics.specs.Script.declared.value.Value.TheVariants.{Num}
 use Rattle.cjc_card_semantics.specs.Bytecode.Numbers.{is_word}
 use Rattle.cjc_card_semantics.specs.Bytecode.Effects.{Stick, onward}
 use Rattle.cjc_card_step.specs.Effects.Deeds.{EffectByToken}

@@ -1,7 +1,7 @@
 use Rattle.std.proofs.Common.{◌∙◌, ap, sym}
 use Rattle.std.specs.Prelude.{option_map}
 use Rattle.cjc_card_semantics.specs.Bytecode.Effects.{Cast}
-use Rattle.cjc_card_frame.specs.CapRead.Decoder.Decoded.{values}
+use Rattle.cjc_card_semantics.specs.CapRead.Decoder.Decoded.{values}
 use Rattle.cjc_card_semantics.specs.Machine.Operations.{or_undone}
 use Rattle.cjc_card_step.specs.Effects.Deeds.{memory}
 use Rattle.cjc_card_step.proofs.StepsLaws.Used.{casts, row_as}

@@ -1,7 +1,7 @@
 use Rattle.std.proofs.Common.{◌+◌, ◌<◌, ℕ, ap, sym, subst, rules}
 use Rattle.std.proofs.lemmas.Result.{IfOk-weaker}
 use Rattle.cjc_card_semantics.specs.Bytecode.Meanings.{meaning}
-use Rattle.cjc_card_frame.specs.CapRead.Decoder.Decoded.{instruction_of, numbers_of, values}
+use Rattle.cjc_card_semantics.specs.CapRead.Decoder.Decoded.{instruction_of, numbers_of, values}
 use Rattle.cjc_card_semantics.specs.Machine.Operations.{operation}
 use Rattle.cjc_card_frame.specs.Kinds.{pool_of}
 use Rattle.cjc_card_step.specs.Effects.Deeds.{Follows, memory}

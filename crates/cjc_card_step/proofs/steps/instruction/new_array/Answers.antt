@@ -9,7 +9,7 @@ use Rattle.cjc_card_semantics.specs.Machine.Operations.{operation, or_undone}
 use Rattle.cjc_card_frame.specs.Objects.{element_of}
 use Rattle.cjc_card_frame.specs.Kinds.{pool_of}
 use Rattle.cjc_card_step.specs.Effects.Deeds.{memory}
-use Rattle.cjc_card_frame.specs.CapRead.Decoder.Decoded.{values}
+use Rattle.cjc_card_semantics.specs.CapRead.Decoder.Decoded.{values}
 use Rattle.cjc_card_step.proofs.StepsLaws.Used.{makes_numbers, row_as}
 use Rattle.cjc_card_step.proofs.steps.instruction.new_array.Goals as goal
 

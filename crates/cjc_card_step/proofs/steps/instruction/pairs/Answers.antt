@@ -5,8 +5,8 @@ use Rattle.std.proofs.lemmas.Int.{to_z-of_z}
 use Rattle.std.proofs.lemmas.Result.{IfOk-weaker}
 use Rattle.cjc_card_semantics.specs.Bytecode.Effects.{Pick}
 use Rattle.cjc_card_semantics.specs.Bytecode.Meanings.{Paired}
-use Rattle.cjc_card_frame.specs.CapRead.Decoder.Decoded.{numbers, numbers_of, values}
-use Rattle.cjc_card_frame.specs.CapRead.Decoder.Shapes.{matches_of}
+use Rattle.cjc_card_semantics.specs.CapRead.Decoder.Decoded.{numbers, numbers_of, values}
+use Rattle.cjc_card_semantics.specs.CapRead.Decoder.Shapes.{matches_of}
 use Rattle.cjc_card_semantics.specs.Machine.Operations.{moved, operation, paired}
 use Rattle.cjc_card_frame.specs.Kinds.{pool_of}
 use Rattle.cjc_card_step.proofs.StepsLaws.Led.{step_as}

@@ -5,8 +5,8 @@ use Rattle.std.proofs.lemmas.Int.{to_z-of_z}
 use Rattle.std.proofs.lemmas.Result.{IfOk-weaker}
 use Rattle.cjc_card_semantics.specs.Bytecode.Effects.{Pick}
 use Rattle.cjc_card_semantics.specs.Bytecode.Meanings.{Ranged}
-use Rattle.cjc_card_frame.specs.CapRead.Decoder.Decoded.{numbers, numbers_of, values}
-use Rattle.cjc_card_frame.specs.CapRead.declared.decoder.table.Matches.TheVariants.{Counted}
+use Rattle.cjc_card_semantics.specs.CapRead.Decoder.Decoded.{numbers, numbers_of, values}
+use Rattle.cjc_card_semantics.specs.CapRead.declared.decoder.table.Matches.TheVariants.{Counted}
 use Rattle.cjc_card_semantics.specs.Machine.Operations.{moved, operation, ranged}
 use Rattle.cjc_card_frame.specs.Kinds.{pool_of}
 use Rattle.cjc_card_step.proofs.StepsLaws.Led.{step_as}

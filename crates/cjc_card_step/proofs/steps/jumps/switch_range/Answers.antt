@@ -5,8 +5,8 @@ use Rattle.std.proofs.lemmas.Int.{to_z-of_z}
 use Rattle.std.proofs.lemmas.Result.{IfOk-weaker}
 use Rattle.cjc_card_semantics.specs.Bytecode.Effects.{arm_of}
 use Rattle.cjc_card_semantics.specs.Bytecode.Effects
-use Rattle.cjc_card_frame.specs.CapRead.Decoder.Decoded.{numbers}
-use Rattle.cjc_card_frame.specs.CapRead.declared.decoder.table.Matches.TheVariants.{Counted}
+use Rattle.cjc_card_semantics.specs.CapRead.Decoder.Decoded.{numbers}
+use Rattle.cjc_card_semantics.specs.CapRead.declared.decoder.table.Matches.TheVariants.{Counted}
 use Rattle.cjc_card_semantics.specs.Machine.Operations.{moved, ranged}
 use Rattle.cjc_card_frame.specs.Frame.Frames.{Words}
 use Rattle.cjc_card_step.proofs.StepsLaws.Led.{both, led, pick_as}

@@ -3,7 +3,7 @@ use Rattle.cjc_capread.specs.declared.tree.ClassDescriptor.{ClassDescriptor}
 use Rattle.cjc_capread.specs.declared.tree.Handler.{Handler}
 use Rattle.cjc_capread.specs.declared.tree.MethodDescriptor.{MethodDescriptor}
 use Rattle.cjc_check_rules.specs.Codes.{codes_from}
-use Rattle.cjc_check_tables.specs.LowerCheckIndex.Lookup.Parts.{complete_of}
+use Rattle.cjc_check_tables.specs.CheckIndex.Lookup.Parts.{complete_of}
 use Rattle.cjc_check_rules.specs.Members.{class_methods}
 use Rattle.cjc_check.specs.Codes.Working.Steps.{methods_of_all}
 use Rattle.cjc_check.proofs.CodesLaws.MethodLists.{methods_are}

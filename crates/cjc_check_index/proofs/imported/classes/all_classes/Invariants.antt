@@ -1,5 +1,5 @@
 use Rattle.std.proofs.Common.{◌≡◌, ◌++◌, drop, length}
-use Rattle.cjc_check_rules.specs.LowerExportFile.Supers.{classes_of}
+use Rattle.cjc_check_rules.specs.ExportFile.Supers.{classes_of}
 use Rattle.cjc_check_index.specs.Imported.Tokens.{file_starts}
 use Rattle.cjc_check_index.proofs.imported.classes.all_classes.Given as goal
 

@@ -1,5 +1,5 @@
 use Rattle.std.proofs.Common.{◌≡◌, map, take}
-use Rattle.cjc_check_rules.specs.LowerExportFile.declared.tree.ExportClass.{ExportClass}
+use Rattle.cjc_check_rules.specs.ExportFile.declared.tree.ExportClass.{ExportClass}
 use Rattle.cjc_check_index.specs.Imported.Working.Graph.{places}
 use Rattle.cjc_check_index.proofs.imported.graph.above_of.Given as goal
 

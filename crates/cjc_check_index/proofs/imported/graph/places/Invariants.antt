@@ -1,5 +1,5 @@
 use Rattle.std.proofs.Common.{◌≡◌, List, ◌++◌, drop}
-use Rattle.cjc_check_rules.specs.LowerExportFile.declared.tree.ExportClass.{ExportClass}
+use Rattle.cjc_check_rules.specs.ExportFile.declared.tree.ExportClass.{ExportClass}
 use Rattle.cjc_check_index.specs.Imported.Working.Graph.{places}
 use Rattle.cjc_check_index.specs.Imported.Working.Names.{IsIndex}
 use Rattle.cjc_check_index.proofs.imported.graph.places.Given as goal

@@ -1,5 +1,5 @@
 use Rattle.std.proofs.Common.{◌∙◌, arith, ap, length, List, Bool}
-use Rattle.cjc_check_rules.specs.LowerExportFile.declared.tree.ExportField.{ExportField}
+use Rattle.cjc_check_rules.specs.ExportFile.declared.tree.ExportField.{ExportField}
 use Rattle.cjc_check_index.specs.Imported.Working.Rows.{is_wanted, with_answer}
 use Rattle.cjc_check_index.proofs.ImportedLaws.Answers.{answers_more, answers_all, length-with_answer}
 use Rattle.cjc_check_index.proofs.imported.listed.fields_of.Goals as goal

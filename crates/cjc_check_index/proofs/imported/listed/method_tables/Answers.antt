@@ -1,8 +1,8 @@
 use Rattle.std.proofs.Common.{◌≡◌, ◌∙◌, ap, map, List, ◌==◌}
 use Rattle.std.specs.Prelude.{◌&&◌}
 use Rattle.std.specs.List.{list_any}
-use Rattle.cjc_check_rules.specs.LowerExportFile.declared.tree.ExportClass.{ExportClass}
-use Rattle.cjc_check_rules.specs.LowerExportFile.declared.tree.ExportMethod.{ExportMethod}
+use Rattle.cjc_check_rules.specs.ExportFile.declared.tree.ExportClass.{ExportClass}
+use Rattle.cjc_check_rules.specs.ExportFile.declared.tree.ExportMethod.{ExportMethod}
 use Rattle.cjc_check_index.specs.Imported.Tokens.{all_tokens}
 use Rattle.cjc_check_index.specs.Imported.Working.Rows.{is_asked, lists_method}
 use Rattle.cjc_check_index.proofs.ImportedLaws.Loops.{map_more, map_all}

@@ -1,5 +1,5 @@
 use Rattle.std.proofs.Common.{◌∙◌, arith, ap, length, List, Bool}
-use Rattle.cjc_check_rules.specs.LowerExportFile.declared.tree.ExportMethod.{ExportMethod}
+use Rattle.cjc_check_rules.specs.ExportFile.declared.tree.ExportMethod.{ExportMethod}
 use Rattle.cjc_check_index.specs.Imported.Working.Rows.{is_asked, with_answer}
 use Rattle.cjc_check_index.proofs.ImportedLaws.Answers.{answers_more, answers_all, length-with_answer}
 use Rattle.cjc_check_index.proofs.imported.listed.methods_of.Goals as goal

@@ -1,6 +1,6 @@
 use Rattle.std.proofs.Common.{◌≡◌, ℕ, List, Bool, map}
 use Rattle.std.specs.List.{range_with_len}
-use Rattle.cjc_check_rules.specs.LowerExportFile.declared.tree.ExportClass.{ExportClass}
+use Rattle.cjc_check_rules.specs.ExportFile.declared.tree.ExportClass.{ExportClass}
 use Rattle.cjc_check_index.specs.Imported.Tokens.{each_class}
 use Rattle.cjc_check_index.specs.Imported.Working.Graph.{AreBelow, above_of}
 use Rattle.cjc_check_index.specs.Imported.Working.Rows.{has_or_inherits}

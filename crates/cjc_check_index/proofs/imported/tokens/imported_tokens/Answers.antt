@@ -1,6 +1,6 @@
 use Rattle.std.proofs.Common.{◌≡◌, ◌∙◌, ap, List, true}
-use Rattle.cjc_check_rules.specs.LowerExportFile.declared.tree.ExportClass.{ExportClass}
-use Rattle.cjc_check_rules.specs.LowerExportFile.Supers.{classes_of, has_virtual, inherits_virtual}
+use Rattle.cjc_check_rules.specs.ExportFile.declared.tree.ExportClass.{ExportClass}
+use Rattle.cjc_check_rules.specs.ExportFile.Supers.{classes_of, has_virtual, inherits_virtual}
 use Rattle.cjc_check_index.specs.Imported.Tokens.{by_token, each_class, has_field, static_field, static_method}
 use Rattle.cjc_check_index.specs.Imported.Working.Rows.{lists_field, lists_method}
 use Rattle.cjc_check_index.proofs.ImportedLaws.Answers.{each_class_same, static_fields_are, static_methods_are}

@@ -1,5 +1,5 @@
 use Rattle.std.proofs.Common.{List, ℕ, Bool, ap, map, ◌∙◌}
-use Rattle.cjc_check_rules.specs.LowerExportFile.Supers.{lists_virtual}
+use Rattle.cjc_check_rules.specs.ExportFile.Supers.{lists_virtual}
 use Rattle.cjc_check_index.specs.Imported.Tokens.{all_tokens}
 use Rattle.cjc_check_index.specs.Imported.Working.Graph.{above_of}
 use Rattle.cjc_check_index.specs.Imported.Working.Rows.{is_any_marked}

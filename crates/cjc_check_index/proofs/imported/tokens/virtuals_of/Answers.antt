@@ -1,5 +1,5 @@
 use Rattle.std.proofs.Common.{◌∙◌}
-use Rattle.cjc_check_rules.specs.LowerExportFile.Supers.{lists_virtual}
+use Rattle.cjc_check_rules.specs.ExportFile.Supers.{lists_virtual}
 use Rattle.cjc_check_index.proofs.imported.tokens.virtuals_of.Goals as goal
 
 pub returns : goal.returns

@@ -1,6 +1,6 @@
 use Rattle.std.proofs.Common.{ℕ, List, ap, ◌∙◌, ◌==◌, false}
 use Rattle.std.specs.List.{list_any}
-use Rattle.cjc_check_rules.specs.LowerCapRead.declared.tree.ClassDescriptor.{ClassDescriptor}
+use Rattle.cjc_check_rules.specs.CapRead.declared.tree.ClassDescriptor.{ClassDescriptor}
 use Rattle.cjc_check_index.specs.Lookup.MethodStarts.{all_offsets}
 use Rattle.cjc_check_index.proofs.LookupLaws.MethodStarts.{methods_any}
 use Rattle.cjc_check_index.proofs.lookup.methods.method_starts.Goals as goal

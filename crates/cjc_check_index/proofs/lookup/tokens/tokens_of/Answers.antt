@@ -1,5 +1,5 @@
 use Rattle.std.proofs.Common.{List, ap, ◌∙◌}
-use Rattle.cjc_check_rules.specs.LowerExportFile.declared.tree.ExportClass.{ExportClass}
+use Rattle.cjc_check_rules.specs.ExportFile.declared.tree.ExportClass.{ExportClass}
 use Rattle.cjc_check_index.specs.Lookup.Indexed.{places_of}
 use Rattle.cjc_check_index.proofs.LookupLaws.TokenPlaces.{tokens_more}
 use Rattle.cjc_check_index.proofs.lookup.tokens.tokens_of.Goals as goal

@@ -1,7 +1,7 @@
 use Rattle.std.proofs.Common.{ℕ, List, map, get_or}
 use Rattle.std.specs.Prelude.{option_to_list, slice_get}
 use Rattle.std.proofs.lemmas.List.{get_or_default}
-use Rattle.cjc_components.specs.CapRead.declared.tree.ClassRef.{ClassRef}
+use Rattle.cjc_components.specs.LowerCapRead.declared.tree.ClassRef.{ClassRef}
 use Rattle.cjc_world.specs.Classes.{Class, all_classes}
 use Rattle.cjc_world.specs.Working.Places.{at_places}
 use Rattle.cjc_classes.specs.ClassInfo.Refs.{ref_of}

@@ -1,13 +1,13 @@
 use Rattle.std.proofs.Common.{◌∙◌, ℕ, List, false, sym, ap, map}
 use Rattle.std.specs.Prelude.{option_map}
-use Rattle.cjc_tokens.specs.ClassFile.declared.tree.ClassTree.{ClassTree}
-use Rattle.cjc_tokens.specs.ExportFile.declared.tree.ExportTree.{ExportTree}
-use Rattle.cjc_components.specs.CapRead.declared.tree.ClassRef.TheVariants.{Inside}
-use Rattle.cjc_components.specs.CardSemantics.Machine.Classes.{external_from, or_else}
-use Rattle.cjc_components.specs.VTable.declared.table.ClassTable.{ClassTable}
+use Rattle.cjc_world.specs.ClassFile.declared.tree.ClassTree.{ClassTree}
+use Rattle.cjc_world.specs.ExportFile.declared.tree.ExportTree.{ExportTree}
+use Rattle.cjc_components.specs.LowerCapRead.declared.tree.ClassRef.TheVariants.{Inside}
+use Rattle.cjc_components.specs.LowerCardSemantics.Machine.Classes.{external_from, or_else}
+use Rattle.cjc_components.specs.LowerVTable.declared.table.ClassTable.{ClassTable}
 use Rattle.cjc_components.specs.Names.{ref_to}
 use Rattle.cjc_world.specs.Classes.{all_classes}
-use Rattle.cjc_components.specs.ClassOrder.Classes.Numbers.{declared_at}
+use Rattle.cjc_components.specs.LowerClassOrder.Classes.Numbers.{declared_at}
 use Rattle.cjc_classes.specs.ClassInfo.Refs.{ref_in}
 use Rattle.cjc_classes.specs.ClassInfo.Infos.{bytes_at, end_of, spot_in, table_bytes, table_named}
 use Rattle.cjc_classes.proofs.ClassInfo.Spotted.{refs-are}

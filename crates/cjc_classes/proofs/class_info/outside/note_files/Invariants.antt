@@ -1,6 +1,6 @@
 use Rattle.std.proofs.Common.{◌≡◌, ℕ, List, drop}
 use Rattle.std.specs.Prelude.{option_map}
-use Rattle.cjc_components.specs.CardSemantics.Machine.Classes.{external_from, or_else}
+use Rattle.cjc_components.specs.LowerCardSemantics.Machine.Classes.{external_from, or_else}
 use Rattle.cjc_components.specs.Names.{ref_to}
 use Rattle.cjc_classes.specs.ClassInfo.Refs.{ref_in}
 use Rattle.cjc_classes.proofs.class_info.outside.note_files.Given as goal

@@ -1,7 +1,7 @@
 use Rattle.std.proofs.Common.{◌≡◌, ℕ, List, drop}
 use Rattle.std.specs.Prelude.{option_map}
-use Rattle.cjc_components.specs.CapRead.declared.tree.ClassRef.TheVariants.{Inside}
-use Rattle.cjc_components.specs.CardSemantics.Machine.Classes.{or_else}
+use Rattle.cjc_components.specs.LowerCapRead.declared.tree.ClassRef.TheVariants.{Inside}
+use Rattle.cjc_components.specs.LowerCardSemantics.Machine.Classes.{or_else}
 use Rattle.cjc_classes.specs.ClassInfo.Refs.{ref_in}
 use Rattle.cjc_classes.specs.ClassInfo.Infos.{spot_in, table_bytes, table_named}
 use Rattle.cjc_classes.proofs.class_info.starts.note_classes.Given as goal

@@ -1,7 +1,7 @@
 use Rattle.std.proofs.Common.{◌≡◌, ℕ, List, drop}
 use Rattle.std.specs.Prelude.{option_map}
-use Rattle.cjc_components.specs.CapRead.declared.tree.ClassRef.TheVariants.{Inside}
-use Rattle.cjc_components.specs.CardSemantics.Machine.Classes.{or_else}
+use Rattle.cjc_components.specs.LowerCapRead.declared.tree.ClassRef.TheVariants.{Inside}
+use Rattle.cjc_components.specs.LowerCardSemantics.Machine.Classes.{or_else}
 use Rattle.cjc_world.specs.Classes.{all_classes}
 use Rattle.cjc_classes.specs.ClassInfo.Refs.{ref_in}
 use Rattle.cjc_classes.specs.ClassInfo.Infos.{bytes_at, end_of, number_named, spot_in}

@@ -1,6 +1,6 @@
 use Rattle.std.proofs.Common.{◌∙◌, List, ap, false, map, sym}
-use Rattle.cjc_components.specs.VTable.declared.table.ClassTable.{ClassTable}
-use Rattle.cjc_components.specs.ClassOrder.Classes.Numbers.{declared_at}
+use Rattle.cjc_components.specs.LowerVTable.declared.table.ClassTable.{ClassTable}
+use Rattle.cjc_components.specs.LowerClassOrder.Classes.Numbers.{declared_at}
 use Rattle.cjc_classes.specs.ClassInfo.Refs.{ref_of}
 use Rattle.cjc_classes.specs.ClassInfo.Entries.{entries_by, offset_in}
 use Rattle.cjc_classes.proofs.ClassInfo.Trees.{info-is}

@@ -3,7 +3,7 @@ use Rattle.std.specs.Prelude.{option_to_list}
 use Rattle.std.proofs.lemmas.List.{get_or_default}
 use Rattle.cjc_world.specs.Classes.{all_classes}
 use Rattle.cjc_components.specs.Class.{interface_entry}
-use Rattle.cjc_components.specs.ClassOrder.Classes.Numbers.{declared_at}
+use Rattle.cjc_components.specs.LowerClassOrder.Classes.Numbers.{declared_at}
 use Rattle.cjc_classes.specs.ClassInfo.Refs.{ref_of}
 use Rattle.cjc_classes.specs.ClassInfo.Entries.{interface_entries}
 use Rattle.cjc_classes.proofs.ClassInfo.Places.{pieces-end, pieces-next}

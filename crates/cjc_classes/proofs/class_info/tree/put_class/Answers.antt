@@ -1,8 +1,8 @@
 use Rattle.std.proofs.Common.{◌≡◌, ◌∙◌, ◌++◌, ◌∷◌, [], List, ap, sym, subst, append-nil, refl}
 use Rattle.std.proofs.lemmas.Option.{slice_get_read, slice_get_past}
 use Rattle.std.specs.Prelude.{OnOk, Some, None, slice_get}
-use Rattle.cjc_components.specs.CapRead.declared.tree.ClassEntry.{ClassEntry}
-use Rattle.cjc_tokens.specs.ClassFile.declared.tree.ClassTree.{ClassTree}
+use Rattle.cjc_components.specs.LowerCapRead.declared.tree.ClassEntry.{ClassEntry}
+use Rattle.cjc_world.specs.ClassFile.declared.tree.ClassTree.{ClassTree}
 use Rattle.cjc_world.specs.Classes.{all_classes}
 use Rattle.cjc_classes.specs.ClassInfo.Refs.{ref_of}
 use Rattle.cjc_classes.specs.ClassInfo.Entries.{entry_where, offset_in}

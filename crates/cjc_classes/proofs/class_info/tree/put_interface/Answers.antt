@@ -1,8 +1,8 @@
 use Rattle.std.proofs.Common.{◌≡◌, ◌∙◌, ◌++◌, ◌∷◌, [], List, ap, map, sym, subst, append-nil, refl}
 use Rattle.std.proofs.lemmas.Option.{slice_get_read, slice_get_past}
 use Rattle.std.specs.Prelude.{OnOk, Option, Some, None, option_map, option_to_list, slice_get}
-use Rattle.cjc_components.specs.CapRead.declared.tree.InterfaceEntry.{InterfaceEntry}
-use Rattle.cjc_tokens.specs.ClassFile.declared.tree.ClassTree.{ClassTree}
+use Rattle.cjc_components.specs.LowerCapRead.declared.tree.InterfaceEntry.{InterfaceEntry}
+use Rattle.cjc_world.specs.ClassFile.declared.tree.ClassTree.{ClassTree}
 use Rattle.cjc_world.specs.Classes.{all_classes, declared}
 use Rattle.cjc_components.specs.Class.{interface_entry}
 use Rattle.cjc_classes.specs.ClassInfo.Refs.{ref_of}

@@ -2,8 +2,8 @@ use Rattle.std.proofs.Common.{ℕ, List, map, ap, ◌∙◌}
 use Rattle.std.proofs.lemmas.List.{take_all}
 use Rattle.cjc_bytes.specs.declared.fault.MemberId.{MemberId}
 use Rattle.cjc_bytes.proofs.Gets.{rows_next}
-use Rattle.cjc_tokens.specs.ClassFile.declared.tree.ClassTree.{ClassTree}
-use Rattle.cjc_components.specs.Clinit.Image.{field_id}
+use Rattle.cjc_world.specs.ClassFile.declared.tree.ClassTree.{ClassTree}
+use Rattle.cjc_components.specs.LowerClinit.Image.{field_id}
 use Rattle.cjc_classes.specs.Descriptor.Working.Cells.{offset_of}
 use Rattle.cjc_classes.proofs.descriptor.cells.cell_offsets.Goals as goal
 

@@ -1,5 +1,5 @@
 use Rattle.std.proofs.Common.{◌≡◌, map, take}
-use Rattle.cjc_components.specs.Clinit.Image.{field_id}
+use Rattle.cjc_components.specs.LowerClinit.Image.{field_id}
 use Rattle.cjc_classes.specs.Descriptor.Working.Cells.{offset_of}
 use Rattle.cjc_classes.proofs.descriptor.cells.offsets_in.Given as goal
 

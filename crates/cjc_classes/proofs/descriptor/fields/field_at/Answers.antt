@@ -1,5 +1,5 @@
 use Rattle.std.proofs.Common.{ℕ, List, ap, ◌∙◌}
-use Rattle.cjc_components.specs.Script.Sorts.{field_sort}
+use Rattle.cjc_components.specs.LowerScript.Sorts.{field_sort}
 use Rattle.cjc_classes.specs.ClassInfo.Refs.{ref_of}
 use Rattle.cjc_classes.specs.TypeInfo.TypeTable.{offset_in}
 use Rattle.cjc_classes.specs.Descriptor.Working.Described.{field_type_by, inputs_of, place_at}

@@ -1,5 +1,5 @@
 use Rattle.std.proofs.Common.{ℕ, List, ◌+◌, ◌++◌, drop, ap, ◌∙◌}
-use Rattle.cjc_tokens.specs.ClassFile.declared.tree.FieldTree.{FieldTree}
+use Rattle.cjc_world.specs.ClassFile.declared.tree.FieldTree.{FieldTree}
 use Rattle.cjc_classes.specs.Descriptor.Working.Described.{field_if, fields_at, inputs_of}
 use Rattle.cjc_classes.proofs.DescriptorLaws.Rows.{each_next}
 use Rattle.cjc_classes.proofs.descriptor.fields.fields_of.Goals as goal

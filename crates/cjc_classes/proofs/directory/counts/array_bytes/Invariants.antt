@@ -1,5 +1,5 @@
 use Rattle.std.proofs.Common.{◌≡◌, take}
-use Rattle.cjc_components.specs.CheckRules.Listed.{array_bytes}
+use Rattle.cjc_components.specs.LowerCheckRules.Listed.{array_bytes}
 use Rattle.cjc_classes.proofs.directory.counts.array_bytes.Given as goal
 
 abbrev pub invariant-loop-array : goal.invariant-loop-array

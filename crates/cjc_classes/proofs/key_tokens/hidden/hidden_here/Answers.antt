@@ -2,7 +2,7 @@ use Rattle.std.proofs.Common.{◌≡◌, ◌∙◌, ◌+◌, ap, sym, subst, map
 use Rattle.std.specs.Prelude.{position, slice_get}
 use Rattle.cjc_bytes.specs.AccessFlags.{is_interface}
 use Rattle.cjc_bytes.proofs.Gets.{slice_get_at}
-use Rattle.cjc_tokens.specs.ClassFile.declared.tree.ClassTree.{ClassTree}
+use Rattle.cjc_world.specs.ClassFile.declared.tree.ClassTree.{ClassTree}
 use Rattle.cjc_world.specs.Classes.{method_of_class}
 use Rattle.cjc_world.specs.Lookup.{is_called}
 use Rattle.cjc_tokens.specs.Tokens.{Assigned, token_of_member}

@@ -4,7 +4,7 @@ use Rattle.std.proofs.lemmas.Result.{IfOk-weaker}
 use Rattle.cjc_world.specs.Classes.{all_classes, class_named, declared}
 use Rattle.cjc_world.specs.Working.Known.{class_of}
 use Rattle.cjc_tokens.specs.Lines.{Line, line_at, line_of}
-use Rattle.cjc_components.specs.VTable.Tables.{or_zero}
+use Rattle.cjc_components.specs.LowerVTable.Tables.{or_zero}
 use Rattle.cjc_components.specs.Names.{token_in}
 use Rattle.cjc_classes.specs.Walks.{called}
 use Rattle.cjc_classes.proofs.KeyTokens.Lines.{shown_nowhere}

@@ -1,6 +1,6 @@
 use Rattle.std.proofs.Common.{◌≡◌, ◌∙◌, ◌+◌, ap, sym, subst, length, get_or, false, Some}
 use Rattle.cjc_bytes.specs.AccessFlags.{is_interface}
-use Rattle.cjc_tokens.specs.ClassFile.declared.tree.ClassTree.{ClassTree}
+use Rattle.cjc_world.specs.ClassFile.declared.tree.ClassTree.{ClassTree}
 use Rattle.cjc_tokens.specs.Tokens.{Assigned, token_of_member}
 use Rattle.cjc_tokens.proofs.Walks.{got-same}
 use Rattle.cjc_classes.proofs.KeyTokens.Here.{shown_got, shown_neither}

@@ -1,7 +1,7 @@
 use Rattle.std.proofs.Common.{◌≡◌, ◌∙◌, ◌+◌, ap, sym, subst, map, length, get_or, false, Some}
 use Rattle.std.specs.Prelude.{◌&&◌, position}
 use Rattle.cjc_bytes.specs.AccessFlags.{is_interface}
-use Rattle.cjc_tokens.specs.ClassFile.declared.tree.ClassTree.{ClassTree}
+use Rattle.cjc_world.specs.ClassFile.declared.tree.ClassTree.{ClassTree}
 use Rattle.cjc_world.specs.Classes.{method_of_class}
 use Rattle.cjc_world.specs.Lookup.{is_called}
 use Rattle.cjc_tokens.specs.Members.{is_shown}

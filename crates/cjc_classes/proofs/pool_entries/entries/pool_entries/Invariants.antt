@@ -1,5 +1,5 @@
 use Rattle.std.proofs.Common.{◌≡◌, ◌++◌, drop, map}
-use Rattle.cjc_components.specs.NCode.Lowering.Naming.{entry_of}
+use Rattle.cjc_components.specs.LowerNCode.Lowering.Naming.{entry_of}
 use Rattle.cjc_components.specs.Package.{Package, pool, tokens}
 use Rattle.cjc_components.specs.Names.{names}
 use Rattle.cjc_classes.specs.ClassInfo.Refs.{AreRefs}

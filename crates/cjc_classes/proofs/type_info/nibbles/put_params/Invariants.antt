@@ -1,6 +1,6 @@
 use Rattle.std.proofs.Common.{◌≡◌, ◌++◌, map}
 use Rattle.std.specs.List.{flat_map}
-use Rattle.cjc_components.specs.Script.Sorts.{sort_of}
+use Rattle.cjc_components.specs.LowerScript.Sorts.{sort_of}
 use Rattle.cjc_components.specs.Types.{sort_nibbles}
 use Rattle.cjc_classes.specs.ClassInfo.Refs.{ref_of}
 use Rattle.cjc_classes.proofs.type_info.nibbles.put_params.Given as goal

@@ -1,6 +1,6 @@
 use Rattle.std.proofs.Common.{◌≡◌, ◌++◌, drop, map}
-use Rattle.cjc_components.specs.CheckRules.Spots.{starts}
-use Rattle.cjc_components.specs.CheckRules.Complete.{type_size}
+use Rattle.cjc_components.specs.LowerCheckRules.Spots.{starts}
+use Rattle.cjc_components.specs.LowerCheckRules.Complete.{type_size}
 use Rattle.cjc_components.specs.Types.{type_descriptor}
 use Rattle.cjc_classes.proofs.type_info.types.starts_of.Given as goal
 

@@ -1,16 +1,16 @@
 use Rattle.std.proofs.Common.{◌≡◌, ◌∙◌, IfOk, ap, map, subst, sym}
-use Rattle.cjc_card.specs.CardSemantics.Machine.ByToken.{run as run_by_token}
-use Rattle.cjc_pairing.specs.CardLink.Names.{class_names_of}
-use Rattle.cjc_card.specs.CardFrame.Kinds.{cell_name_of}
-use Rattle.cjc_shape.specs.Judge.Rules.{has_applets}
-use Rattle.cjc_card.specs.CheckIndex.Lookup.Parts.{complete_of}
-use Rattle.cjc_pairing.specs.Components.Paired.Naming.{class_names}
-use Rattle.cjc_card.specs.World.Classes.{all_classes}
-use Rattle.cjc_card.specs.World.Order.{class_order}
+use Rattle.cjc_pairing.specs.CardSemantics.Machine.ByToken.{run as run_by_token}
+use Rattle.cjc_card.specs.CardLink.Names.{class_names_of}
+use Rattle.cjc_pairing.specs.CardFrame.Kinds.{cell_name_of}
+use Rattle.cjc_cmd_jvm.specs.Judge.Rules.{has_applets}
+use Rattle.cjc_pairing.specs.CheckIndex.Lookup.Parts.{complete_of}
+use Rattle.cjc_shape.specs.Components.Paired.Naming.{class_names}
+use Rattle.cjc_pairing.specs.World.Classes.{all_classes}
+use Rattle.cjc_pairing.specs.World.Order.{class_order}
 use Rattle.cjc_cmd_card.proofs.ReportLaws.Free.{few_cells, few_exported, has_tokens}
 use Rattle.cjc_cmd_card.proofs.ReportLaws.Whole.{loaded_so}
-use Rattle.cjc_pairing.specs.List.Listed.{ListTree}
-use Rattle.cjc_pairing.specs.Tokens.Rules.{FewExported, token_breaks}
+use Rattle.cjc_cmd_check.specs.List.Listed.{ListTree}
+use Rattle.cjc_shape.specs.Tokens.Rules.{FewExported, token_breaks}
 use Rattle.cjc_cmd_card.proofs.report.reporting.report_from.Goals as goal
 
 pub returns : goal.returns

@@ -1,6 +1,6 @@
 use Rattle.cjc_cmd_jvm.proofs.ShelfGathering.{gathers_then, gathers_end}
 use Rattle.cjc_cmd_jvm.proofs.ShelfJudging.{gathers_judged}
-use Rattle.cjc_cmd_jvm.specs.Shelf.Command.Plan.{has}
+use Rattle.cjc_cmd_jvm.specs.LowerShelf.Command.Plan.{has}
 use Rattle.std.proofs.lemmas.Result.{err_from_is_err_and}
 use Rattle.cjc_cmd_card.specs.Running.Reads.{plan_of_card}
 use Rattle.cjc_cmd_card.specs.declared.running.input.Input.{Input}

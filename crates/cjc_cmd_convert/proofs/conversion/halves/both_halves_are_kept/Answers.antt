@@ -2,8 +2,8 @@ use Rattle.std.proofs.Common.{◌≡◌, sym, subst, []}
 use Rattle.cjc_cmd_convert.proofs.ConversionLaws.Spelt.{exports_are_fair}
 use Rattle.cjc_cmd_convert.proofs.conversion.halves.both_halves_are_kept.Goals as goal
 use Rattle.cjc_convert.proofs.ShapeSecond.{ints_of}
-use Rattle.cjc_theorem.specs.Components.Limits.{limit_breaks}
-use Rattle.cjc_theorem.specs.Components.Package.{Package}
+use Rattle.cjc_convert.specs.Components.Limits.{limit_breaks}
+use Rattle.cjc_convert.specs.Components.Package.{Package}
 use Rattle.cjc_theorem.specs.Alike.Halves.{ComponentsRunAsCode}
 
 pub returns-clause-code : goal.returns-clause-code

@@ -2,7 +2,7 @@ use Rattle.std.proofs.Common.{ap, ◌∙◌}
 use Rattle.cjc_cmd_convert.proofs.ConversionLaws.OneTree.{one_tree}
 use Rattle.cjc_cmd_convert.proofs.ConversionLaws.Spelt.{files_are}
 use Rattle.cjc_cmd_convert.proofs.conversion.halves.converted_files_spell_one_package.Goals as goal
-use Rattle.cjc_theorem.specs.Components.Components.{components_of}
+use Rattle.cjc_convert.specs.Components.Components.{components_of}
 use Rattle.cjc_convert.proofs.ShapeOne.{one_package}
 
 pub returns-clause-some : goal.returns-clause-some

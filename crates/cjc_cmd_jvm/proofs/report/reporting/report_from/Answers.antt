@@ -1,6 +1,6 @@
 use Rattle.std.proofs.Common.{◌≡◌, ◌<◌, ◌+◌, subst, sym}
-use Rattle.cjc_jvm.specs.JvmSemantics.ByName.{linked}
-use Rattle.cjc_jvm.specs.JvmSemantics.Machine.{start}
+use Rattle.cjc_jvm_link.specs.JvmSemantics.ByName.{linked}
+use Rattle.cjc_jvm_link.specs.JvmSemantics.Machine.{start}
 use Rattle.cjc_jvm_link.specs.Linkage.{Linkage}
 use Rattle.cjc_jvm.specs.States.{objects_at_most}
 use Rattle.cjc_cmd_jvm.proofs.ReportLaws.Free.{starts_small}

@@ -1,6 +1,6 @@
 use Rattle.std.proofs.lemmas.Result.{err_from_is_err_and}
 use Rattle.cjc_cmd_make.proofs.ReportLaws.Ends.{reads_refused, rules_refused}
-use Rattle.cjc_cmd_convert.specs.Shelf.Memory.{clean_shelved, files_of}
+use Rattle.cjc_cmd_card.specs.Shelf.Memory.{clean_shelved, files_of}
 use Rattle.cjc_cmd_make.proofs.report.by_token.report_by_token.Goals as goal
 
 pub returns-clause-report : goal.returns-clause-report

@@ -1,7 +1,7 @@
 use Rattle.std.proofs.Common.{ap, ◌∙◌}
-use Rattle.cjc_cmd_convert.specs.Shelf.Command.Publish.{written_files}
-use Rattle.cjc_cmd_convert.specs.Shelf.declared.command.status.Todo.{Todo}
-use Rattle.cjc_cmd_convert.specs.Shelf.Memory.{clean_shelved, files_of}
+use Rattle.cjc_cmd_card.specs.Shelf.Command.Publish.{written_files}
+use Rattle.cjc_cmd_card.specs.Shelf.declared.command.status.Todo.{Todo}
+use Rattle.cjc_cmd_card.specs.Shelf.Memory.{clean_shelved, files_of}
 use Rattle.cjc_cmd_make.proofs.report.making.add_converted.Goals as goal
 
 pub returns : goal.returns

@@ -1,7 +1,7 @@
-use Rattle.cjc_cmd_convert.specs.Shelf.Command.Gather.{IsSame}
+use Rattle.cjc_cmd_card.specs.Shelf.Command.Gather.{IsSame}
 use Rattle.cjc_cmd_make.proofs.ReportLaws.Ends.{files_stay, gathered, read_fault}
 use Rattle.cjc_cmd_make.specs.Report.Package.{list_name, script_name}
-use Rattle.cjc_cmd_card.specs.CmdJvm.Running.Reads.{plan_of_run}
+use Rattle.cjc_cmd_card.specs.LowerCmdJvm.Running.Reads.{plan_of_run}
 use Rattle.cjc_cmd_make.proofs.report.making.read_package.Goals as goal
 
 pub returns-in-Ok-clause-kept : goal.returns-in-Ok-clause-kept

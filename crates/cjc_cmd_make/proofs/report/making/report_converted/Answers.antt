@@ -1,7 +1,7 @@
 use Rattle.std.proofs.Common.{[], ap, subst, ◌∙◌}
 use Rattle.std.proofs.lemmas.Result.{err_from_is_err_and}
-use Rattle.cjc_cmd_convert.specs.Shelf.Memory.{clean_shelved, files_of}
-use Rattle.cjc_cmd_convert.specs.Shelf.declared.command.status.Todo.{Todo}
+use Rattle.cjc_cmd_card.specs.Shelf.Memory.{clean_shelved, files_of}
+use Rattle.cjc_cmd_card.specs.Shelf.declared.command.status.Todo.{Todo}
 use Rattle.cjc_cmd_make.proofs.ReportLaws.Ends.{name_refused, token_refused}
 use Rattle.cjc_cmd_make.specs.Report.Runs.{IsReportByToken}
 use Rattle.cjc_cmd_make.specs.Report.Summary.{size_item, summary_lines}

@@ -1,5 +1,5 @@
 use Rattle.cjc_cmd_make.proofs.ReportLaws.Files.{classes_end, classes_next, with_one}
-use Rattle.cjc_cmd_convert.specs.Shelf.Memory.{clean_shelved}
+use Rattle.cjc_cmd_card.specs.Shelf.Memory.{clean_shelved}
 use Rattle.cjc_cmd_make.proofs.report.shelf.add_classes.Goals as goal
 
 pub loop-i-preserved : goal.loop-i-preserved

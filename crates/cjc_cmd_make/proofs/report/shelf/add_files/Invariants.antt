@@ -1,6 +1,6 @@
 use Rattle.std.proofs.Common.{◌≡◌, drop}
-use Rattle.cjc_cmd_convert.specs.Shelf.Command.Publish.{written_files}
-use Rattle.cjc_cmd_convert.specs.Shelf.Memory.{clean_shelved, files_of}
+use Rattle.cjc_cmd_card.specs.Shelf.Command.Publish.{written_files}
+use Rattle.cjc_cmd_card.specs.Shelf.Memory.{clean_shelved, files_of}
 use Rattle.cjc_cmd_make.proofs.report.shelf.add_files.Given as goal
 
 abbrev pub invariant-loop-file : goal.invariant-loop-file

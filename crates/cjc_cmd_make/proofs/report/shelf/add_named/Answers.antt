@@ -1,9 +1,9 @@
 use Rattle.std.proofs.Common.{◌≡◌, ◌∷◌, ap, drop, sym, ◌∙◌, List, ℕ}
 use Rattle.std.proofs.lemmas.List.{take_rest}
-use Rattle.cjc_cmd_convert.specs.Shelf.Command.Publish.{written_files}
+use Rattle.cjc_cmd_card.specs.Shelf.Command.Publish.{written_files}
 use Rattle.cjc_cmd_make.specs.Report.Package.{named_classes, named_files}
 use Rattle.cjc_cmd_make.proofs.ReportLaws.Files.{with_one}
-use Rattle.cjc_cmd_convert.specs.Shelf.Memory.{clean_shelved, files_of}
+use Rattle.cjc_cmd_card.specs.Shelf.Memory.{clean_shelved, files_of}
 use Rattle.cjc_cmd_convert.proofs.BytesGets.{drop_next}
 use Rattle.cjc_cmd_make.proofs.report.shelf.add_named.Goals as goal
 

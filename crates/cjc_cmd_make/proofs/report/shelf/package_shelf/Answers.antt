@@ -1,9 +1,9 @@
 use Rattle.std.proofs.Common.{ap, ◌∙◌}
 use Rattle.std.specs.FinMap.{empty}
-use Rattle.cjc_cmd_convert.specs.Shelf.Command.Publish.{written_files}
+use Rattle.cjc_cmd_card.specs.Shelf.Command.Publish.{written_files}
 use Rattle.cjc_cmd_make.specs.Report.Package.{package_files}
 use Rattle.cjc_cmd_make.proofs.ReportLaws.Files.{package_added, with_one}
-use Rattle.cjc_cmd_convert.specs.Shelf.Memory.{clean_shelved, files_of}
+use Rattle.cjc_cmd_card.specs.Shelf.Memory.{clean_shelved, files_of}
 use Rattle.cjc_cmd_make.proofs.report.shelf.package_shelf.Goals as goal
 
 pub returns : goal.returns

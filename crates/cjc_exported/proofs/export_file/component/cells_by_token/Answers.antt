@@ -2,7 +2,7 @@ use Rattle.std.proofs.Common.{◌≡◌, ◌+◌, ◌∙◌, ◌++◌, ◌∷◌
 use Rattle.std.specs.Prelude.{filter, if◌then◌else◌, option_map, slice_get, unwrap_or, Some}
 use Rattle.std.proofs.Math.ListN.{drop_of_length-le}
 use Rattle.std.proofs.lemmas.Option.{slice_get-map, slice_get_read}
-use Rattle.cjc_components.specs.Tokens.Fields.{is_open_static}
+use Rattle.cjc_components.specs.LowerTokens.Fields.{is_open_static}
 use Rattle.cjc_exported.proofs.ExportFile.Piles.{mapped, piled, piled-all}
 use Rattle.cjc_world.proofs.BytesGets.{drop_at}
 use Rattle.cjc_exported.proofs.export_file.component.cells_by_token.Goals as goal

@@ -1,7 +1,7 @@
 use Rattle.std.proofs.Common.{◌≡◌, ℕ, ◌++◌, drop, map}
 use Rattle.std.specs.Prelude.{filter}
-use Rattle.cjc_components.specs.ClassFile.declared.tree.FieldTree.{FieldTree}
-use Rattle.cjc_components.specs.Tokens.Fields.{is_open_static}
+use Rattle.cjc_world.specs.ClassFile.declared.tree.FieldTree.{FieldTree}
+use Rattle.cjc_components.specs.LowerTokens.Fields.{is_open_static}
 use Rattle.cjc_exported.proofs.export_file.component.cells_by_token.Given as goal
 
 abbrev pub invariant-loop-place : goal.invariant-loop-place

@@ -1,7 +1,7 @@
 use Rattle.std.proofs.Common.{◌<◌, ◌∙◌, ap, arith, sym, subst, length}
 use Rattle.std.specs.Prelude.{nat_lt}
 use Rattle.std.proofs.lemmas.Bool.{eqb-true, eqb-false}
-use Rattle.cjc_components.specs.List.Listed.{ListTree}
+use Rattle.cjc_components.specs.LowerList.Listed.{ListTree}
 use Rattle.cjc_exported.proofs.ExportFile.Exporting.{export-none, export-some}
 use Rattle.cjc_exported.proofs.export_file.component.export.Goals as goal
 

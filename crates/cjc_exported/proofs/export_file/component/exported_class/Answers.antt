@@ -1,11 +1,11 @@
 use Rattle.std.proofs.Common.{◌≡◌, ◌∙◌, ap, sym, length, map, false, ℕ}
 use Rattle.std.specs.Prelude.{filter, slice_get, Some, unwrap_or}
-use Rattle.cjc_components.specs.ClassFile.declared.tree.FieldTree.{FieldTree}
+use Rattle.cjc_world.specs.ClassFile.declared.tree.FieldTree.{FieldTree}
 use Rattle.cjc_world.specs.Files.{Files}
 use Rattle.cjc_world.specs.Classes.{all_classes, class_at}
 use Rattle.cjc_world.specs.Working.Known.{class_of}
-use Rattle.cjc_components.specs.Clinit.Image.{field_id}
-use Rattle.cjc_components.specs.Tokens.Fields.{is_open_static}
+use Rattle.cjc_components.specs.LowerClinit.Image.{field_id}
+use Rattle.cjc_components.specs.LowerTokens.Fields.{is_open_static}
 use Rattle.cjc_components.specs.Package.{world}
 use Rattle.cjc_components.specs.Class.{fields_in}
 use Rattle.cjc_components.specs.Exports.{open_methods}

@@ -5,7 +5,7 @@ use Rattle.std.proofs.lemmas.Option.{slice_get-get_or}
 use Rattle.cjc_world.specs.Classes.{Member}
 use Rattle.cjc_world.specs.Lookup.{member_at}
 use Rattle.cjc_world.specs.Working.Known.{class_of}
-use Rattle.cjc_components.specs.Tokens.Methods.{is_open_bound}
+use Rattle.cjc_components.specs.LowerTokens.Methods.{is_open_bound}
 use Rattle.cjc_components.specs.Descriptor.{no_member}
 use Rattle.cjc_components.specs.Exports.{open_methods}
 use Rattle.cjc_exported.proofs.ExportFile.Exporting.{opened}

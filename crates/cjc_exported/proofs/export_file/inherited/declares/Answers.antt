@@ -1,7 +1,7 @@
 use Rattle.std.proofs.Common.{◌∙◌, ap}
 use Rattle.std.specs.Prelude.{is_some}
 use Rattle.cjc_world.specs.Working.Known.{class_of}
-use Rattle.cjc_components.specs.Tokens.Working.{signature_in}
+use Rattle.cjc_components.specs.LowerTokens.Working.{signature_in}
 use Rattle.cjc_exported.proofs.ExportFile.Methods.{has-declared}
 use Rattle.cjc_exported.proofs.export_file.inherited.declares.Goals as goal
 

@@ -3,8 +3,8 @@ use Rattle.std.specs.Prelude.{None, Some, option_map, slice_get}
 use Rattle.std.proofs.lemmas.List.{length-map}
 use Rattle.std.proofs.lemmas.Option.{get_or_from_slice_get, slice_get-get_or}
 use Rattle.cjc_world.specs.Working.Known.{class_of}
-use Rattle.cjc_components.specs.Tokens.Members.{Signature}
-use Rattle.cjc_components.specs.Tokens.Working.{signature_in}
+use Rattle.cjc_components.specs.LowerTokens.Members.{Signature}
+use Rattle.cjc_components.specs.LowerTokens.Working.{signature_in}
 use Rattle.cjc_components.specs.ExportFile.{super_at, supers_from}
 use Rattle.cjc_exported.specs.ExportFile.Working.Sources.{world_in}
 use Rattle.cjc_exported.proofs.ExportFile.Methods.{slot-signed, supers-ended}

@@ -1,8 +1,8 @@
 use Rattle.std.proofs.Common.{◌≡◌, ◌++◌, List, drop, map}
 use Rattle.std.specs.Prelude.{Some}
 use Rattle.cjc_world.specs.Working.Known.{class_of}
-use Rattle.cjc_components.specs.Tokens.Members.{Signature}
-use Rattle.cjc_components.specs.Tokens.Working.{signs}
+use Rattle.cjc_components.specs.LowerTokens.Members.{Signature}
+use Rattle.cjc_components.specs.LowerTokens.Working.{signs}
 use Rattle.cjc_components.specs.ExportFile.{supers_from}
 use Rattle.cjc_exported.specs.ExportFile.Working.Sources.{world_in}
 use Rattle.cjc_exported.proofs.export_file.inherited.put_all_from_above.Given as goal

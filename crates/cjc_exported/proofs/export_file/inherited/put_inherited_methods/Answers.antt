@@ -1,12 +1,12 @@
 use Rattle.std.proofs.Common.{◌≡◌, ◌∙◌, ◌++◌, ap, sym, subst, true, false}
 use Rattle.std.specs.Prelude.{if◌then◌else◌, OnOk, Some}
-use Rattle.cjc_world.specs.LowerBytes.AccessFlags.{is_interface}
+use Rattle.cjc_world.specs.Bytes.AccessFlags.{is_interface}
 use Rattle.cjc_world.specs.Classes.{class_at}
 use Rattle.cjc_world.specs.Working.Known.{class_of}
-use Rattle.cjc_components.specs.Tokens.Lines.{line_at}
-use Rattle.cjc_components.specs.Tokens.Methods.{interface_methods, interface_row}
-use Rattle.cjc_components.specs.Tokens.Slots.{row}
-use Rattle.cjc_components.specs.Tokens.Working.{signs}
+use Rattle.cjc_components.specs.LowerTokens.Lines.{line_at}
+use Rattle.cjc_components.specs.LowerTokens.Methods.{interface_methods, interface_row}
+use Rattle.cjc_components.specs.LowerTokens.Slots.{row}
+use Rattle.cjc_components.specs.LowerTokens.Working.{signs}
 use Rattle.cjc_components.specs.ExportFile.{inherited, inherited_from, supers_from}
 use Rattle.cjc_components.specs.Package.{has_applets}
 use Rattle.cjc_exported.specs.ExportFile.Working.Sources.{package_in, world_in}

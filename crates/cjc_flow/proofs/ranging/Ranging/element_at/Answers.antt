@@ -1,6 +1,6 @@
 use Rattle.std.proofs.Common.{◌≡◌, List, Option, Some, None, slice_get, get_or, ap, ◌∙◌, subst}
 use Rattle.cjc_range.specs.Span.{Span}
-use Rattle.cjc_types.specs.LowerBytecode.declared.insn.JInsn.{JInsn}
+use Rattle.cjc_types.specs.Bytecode.declared.insn.JInsn.{JInsn}
 use Rattle.cjc_flow.specs.Working.Given.{element_at}
 use Rattle.cjc_flow.specs.Working.Kept.{Ranged}
 use Rattle.cjc_flow.proofs.Loading.{element_kept}

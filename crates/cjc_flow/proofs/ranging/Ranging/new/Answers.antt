@@ -2,7 +2,7 @@ use Rattle.std.proofs.Common.{◌<◌, ◌^◌, length, sym, ap, subst}
 use Rattle.cjc_types.specs.Flow.{Body}
 use Rattle.cjc_types.specs.Tables.{IsTypeTable, rows_of}
 use Rattle.cjc_types.proofs.Few.{insns_few}
-use Rattle.cjc_intervals.specs.World.Classes.{all_classes}
+use Rattle.cjc_types.specs.World.Classes.{all_classes}
 use Rattle.cjc_flow.specs.Working.Kept.{Ranged}
 use Rattle.cjc_flow.proofs.ranging.Ranging.new.Goals as goal
 

@@ -1,6 +1,6 @@
 use Rattle.std.proofs.Common.{◌≡◌, Option, Some, slice_get, get_or, None, IfOk, sym, ap, ◌∙◌, subst}
 use Rattle.std.proofs.lemmas.Option.{slice_get_within}
-use Rattle.cjc_types.specs.LowerBytecode.declared.insn.JInsn.{JInsn}
+use Rattle.cjc_types.specs.Bytecode.declared.insn.JInsn.{JInsn}
 use Rattle.cjc_flow.specs.Working.Kept.{Ranged, kept_place}
 use Rattle.cjc_flow.proofs.Edges.{place_by, place_none}
 use Rattle.cjc_flow.proofs.ranging.Ranging.place_edges.Goals as goal

@@ -1,9 +1,9 @@
 use Rattle.std.proofs.Common.{List, get_or, sym, ap, ◌∙◌, subst}
 use Rattle.std.proofs.lemmas.Option.{get_or_from_slice_get}
-use Rattle.cjc_intervals.specs.ClassFile.declared.tree.ClassTree.{ClassTree}
-use Rattle.cjc_intervals.specs.ClassFile.declared.tree.MethodTree.{MethodTree}
-use Rattle.cjc_types.specs.LowerBytecode.declared.insn.JInsn.{JInsn}
-use Rattle.cjc_intervals.specs.World.Classes.{all_classes}
+use Rattle.cjc_types.specs.ClassFile.declared.tree.ClassTree.{ClassTree}
+use Rattle.cjc_types.specs.ClassFile.declared.tree.MethodTree.{MethodTree}
+use Rattle.cjc_types.specs.Bytecode.declared.insn.JInsn.{JInsn}
+use Rattle.cjc_types.specs.World.Classes.{all_classes}
 use Rattle.cjc_types.specs.Flow.{Body, body_of}
 use Rattle.cjc_types.specs.Tables.{IsTypeTable, rows_of}
 use Rattle.cjc_types.proofs.Least.{method_same}

@@ -1,6 +1,6 @@
 use Rattle.std.proofs.Common.{◌≡◌, ◌+◌, ◌++◌, sym, ap, ◌∙◌, append_assoc}
 use Rattle.std.proofs.lemmas.Result.{on_ok_weaker}
-use Rattle.cjc_ncode.specs.Script.Sorts.{signature_of}
+use Rattle.cjc_int_mode.specs.Script.Sorts.{signature_of}
 use Rattle.cjc_ncode.specs.IntCode.IntCode.{nargs}
 use Rattle.cjc_int_mode.specs.Written.{params_by}
 use Rattle.cjc_int_narrow.specs.Working.Frames.{frame_of}

@@ -1,10 +1,10 @@
 use Rattle.std.proofs.Common.{◌≡◌, sym, ap, ◌∙◌, subst, List, Option}
-use Rattle.cjc_vtable.specs.ClassFile.Code.{CodeTree}
-use Rattle.cjc_vtable.specs.ClassFile.declared.tree.ClassTree.{ClassTree}
-use Rattle.cjc_vtable.specs.ClassFile.declared.tree.MethodTree.{MethodTree}
-use Rattle.cjc_flow.specs.Types.declared.state.State.{State}
-use Rattle.cjc_flow.specs.Types.Flow.{Body, body_of}
-use Rattle.cjc_flow.specs.Types.Tables.{IsMethodOf, rows_of}
+use Rattle.cjc_world.specs.ClassFile.Code.{CodeTree}
+use Rattle.cjc_world.specs.ClassFile.declared.tree.ClassTree.{ClassTree}
+use Rattle.cjc_world.specs.ClassFile.declared.tree.MethodTree.{MethodTree}
+use Rattle.cjc_narrow.specs.Types.declared.state.State.{State}
+use Rattle.cjc_narrow.specs.Types.Flow.{Body, body_of}
+use Rattle.cjc_narrow.specs.Types.Tables.{IsMethodOf, rows_of}
 use Rattle.cjc_flow.specs.Constants.{values_of}
 use Rattle.cjc_flow.specs.Tables.{IsRangeTable}
 use Rattle.cjc_flow.specs.Working.Kept.{Ranged}

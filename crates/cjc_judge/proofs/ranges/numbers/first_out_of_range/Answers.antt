@@ -1,6 +1,6 @@
 use Rattle.std.proofs.Common.{ap, ◌∙◌, List, Option, ℤ}
-use Rattle.cjc_flow.specs.Types.Flow.{body_of}
-use Rattle.cjc_flow.specs.Types.Tables.{rows_of}
+use Rattle.cjc_narrow.specs.Types.Flow.{body_of}
+use Rattle.cjc_narrow.specs.Types.Tables.{rows_of}
 use Rattle.cjc_flow.specs.Constants.{values_of}
 use Rattle.cjc_flow.specs.Working.Kept.{Ranged}
 use Rattle.cjc_judge.specs.OutOfRange.{constants_of}

@@ -1,5 +1,5 @@
 use Rattle.std.proofs.Common.{◌≡◌, ◌≤◌, ◌+◌, ℕ, drop, length}
-use Rattle.cjc_jvm_semantics.specs.CardSemantics.Bytecode.Runs.{Move}
+use Rattle.cjc_jvm_step.specs.CardSemantics.Bytecode.Runs.{Move}
 use Rattle.cjc_jvm_semantics.specs.Machine.{State, after_acts, with_heap}
 use Rattle.cjc_jvm.proofs.acts.acts.perform.Given as goal
 

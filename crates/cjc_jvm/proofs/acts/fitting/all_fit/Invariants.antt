@@ -1,5 +1,5 @@
 use Rattle.std.proofs.Common.{◌≡◌, drop, map}
-use Rattle.cjc_jvm_semantics.specs.Script.Sorts
+use Rattle.cjc_jvm_step.specs.Script.Sorts
 use Rattle.cjc_jvm_semantics.specs.Machine.{object_fits}
 use Rattle.cjc_jvm.specs.Acts.Meant.{sort_meant}
 use Rattle.cjc_jvm.proofs.acts.fitting.all_fit.Given as goal

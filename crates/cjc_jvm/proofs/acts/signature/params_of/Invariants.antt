@@ -1,5 +1,5 @@
 use Rattle.std.proofs.Common.{◌≡◌, take, map}
-use Rattle.cjc_jvm_semantics.specs.Script.Sorts.{sort_of}
+use Rattle.cjc_jvm_step.specs.Script.Sorts.{sort_of}
 use Rattle.cjc_jvm.specs.Acts.Meant.{sort_meant}
 use Rattle.cjc_jvm.proofs.acts.signature.params_of.Given as goal
 

@@ -1,6 +1,6 @@
 use Rattle.std.proofs.Common.{◌≡◌, sym, ap, ◌∙◌}
 use Rattle.std.specs.Prelude.{Some}
-use Rattle.cjc_jvm_semantics.specs.Script.Sorts.{all_fit, signature_of}
+use Rattle.cjc_jvm_step.specs.Script.Sorts.{all_fit, signature_of}
 use Rattle.cjc_jvm_semantics.specs.Machine.{args_fit, object_fits}
 use Rattle.cjc_jvm.proofs.runs.entries.args_fit.Goals as goal
 

@@ -1,8 +1,8 @@
 use Rattle.std.proofs.Common.{◌≡◌, ◌∷◌, [], sym, ap, ◌∙◌, subst, refl, true, false}
 use Rattle.std.specs.Prelude.{Some, None}
-use Rattle.cjc_jvm_semantics.specs.Script.declared.report.Outcome.TheVariants.{Unfit}
-use Rattle.cjc_jvm_semantics.specs.Script.Sorts.{signature_of}
-use Rattle.cjc_jvm_semantics.specs.CardSemantics.Bytecode.Runs.{On, Over}
+use Rattle.cjc_jvm_step.specs.Script.declared.report.Outcome.TheVariants.{Unfit}
+use Rattle.cjc_jvm_step.specs.Script.Sorts.{signature_of}
+use Rattle.cjc_jvm_step.specs.CardSemantics.Bytecode.Runs.{On, Over}
 use Rattle.cjc_jvm_semantics.specs.Machine.{Frame, State, args_fit, begins, frame_for_call, report, with_heap}
 use Rattle.cjc_jvm_step.specs.Step.Rows.{store_of}
 use Rattle.cjc_jvm.proofs.RunsLaws.Begins.{fits, unfit}

@@ -1,5 +1,5 @@
 use Rattle.std.proofs.Common.{◌≡◌, get_or, ap, ◌∙◌, arith}
-use Rattle.cjc_jvm_semantics.specs.Script.declared.value.Value.TheVariants.{Num}
+use Rattle.cjc_jvm_step.specs.Script.declared.value.Value.TheVariants.{Num}
 use Rattle.std.proofs.Common.{pos}
 use Rattle.cjc_jvm.proofs.RunsLaws.Lists.{fields_all, fields_more}
 use Rattle.cjc_jvm.proofs.runs.reports.fields_of.Goals as goal

@@ -1,5 +1,5 @@
 use Rattle.std.proofs.Common.{◌≡◌, ◌-◌, sym, ap, arith, ◌∙◌}
-use Rattle.cjc_jvm_semantics.specs.CardSemantics.Bytecode.Runs
+use Rattle.cjc_jvm_step.specs.CardSemantics.Bytecode.Runs
 use Rattle.cjc_jvm_semantics.specs.Machine.{device, report}
 use Rattle.cjc_jvm.specs.States.{with_frame}
 use Rattle.cjc_jvm.proofs.RunsLaws.OneTurn.{run_on, run_over}

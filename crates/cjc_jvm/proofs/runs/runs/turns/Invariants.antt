@@ -1,5 +1,5 @@
 use Rattle.std.proofs.Common.{◌≡◌, ◌≤◌, ◌+◌, ◌-◌}
-use Rattle.cjc_jvm_semantics.specs.CardSemantics.Bytecode.Runs
+use Rattle.cjc_jvm_step.specs.CardSemantics.Bytecode.Runs
 use Rattle.cjc_jvm_semantics.specs.Machine.{device}
 use Rattle.cjc_jvm.specs.States.{with_frame, objects_at_most}
 use Rattle.cjc_jvm.proofs.runs.runs.turns.Given as goal

@@ -1,5 +1,5 @@
 use Rattle.std.proofs.Common.{◌≡◌, ◌+◌, ◌≤◌, sym, ap, ◌∙◌, subst}
-use Rattle.cjc_jvm_semantics.specs.CardSemantics.Bytecode.Runs.{On, Over}
+use Rattle.cjc_jvm_step.specs.CardSemantics.Bytecode.Runs.{On, Over}
 use Rattle.cjc_jvm_semantics.specs.Machine.{State, report, spend}
 use Rattle.cjc_jvm_step.specs.Step.Rows.{store_of}
 use Rattle.cjc_jvm.specs.States.{objects_at_most, with_frame}

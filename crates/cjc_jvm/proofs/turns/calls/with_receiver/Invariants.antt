@@ -1,5 +1,5 @@
 use Rattle.std.proofs.Common.{◌≡◌, ◌∷◌, take}
-use Rattle.cjc_jvm_semantics.specs.Script.declared.value.Value.TheVariants.{Obj}
+use Rattle.cjc_jvm_step.specs.Script.declared.value.Value.TheVariants.{Obj}
 use Rattle.cjc_jvm.proofs.turns.calls.with_receiver.Given as goal
 
 abbrev pub invariant-loop-arg : goal.invariant-loop-arg

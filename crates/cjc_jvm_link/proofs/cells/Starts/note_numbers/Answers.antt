@@ -2,7 +2,7 @@ use Rattle.std.proofs.Common.{rules, ◌≡◌, ◌∙◌, ap}
 use Rattle.std.specs.Prelude.{FitsSigned, Some, None, if◌then◌else◌}
 use Rattle.std.specs.Int.{w32, cast_signed, cast_unsigned}
 use Rattle.std.proofs.lemmas.Int.{to_z-of_z}
-use Rattle.cjc_jvm_semantics.specs.Script.declared.value.Value.TheVariants.{Num}
+use Rattle.cjc_jvm_step.specs.Script.declared.value.Value.TheVariants.{Num}
 use Rattle.cjc_jvm_semantics.specs.Effects.{is_same_field}
 use Rattle.cjc_jvm_link.specs.Starts.{start_in, either}
 use Rattle.cjc_jvm_link.proofs.Starting.{numbers_step}

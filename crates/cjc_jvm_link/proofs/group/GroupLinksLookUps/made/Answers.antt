@@ -2,7 +2,7 @@ use Rattle.std.proofs.Common.{ℕ, List, map, sym, ap, ◌∙◌}
 use Rattle.std.specs.Prelude.{Bool, None, Option, option_map, if◌then◌else◌}
 use Rattle.cjc_world.specs.Classes.{Class, all_classes}
 use Rattle.cjc_world.specs.Files.{Files}
-use Rattle.cjc_jvm_semantics.specs.Script.declared.report.FieldValue.{FieldValue}
+use Rattle.cjc_jvm_step.specs.Script.declared.report.FieldValue.{FieldValue}
 use Rattle.cjc_jvm_semantics.specs.Effects.{fresh_field}
 use Rattle.cjc_jvm_semantics.specs.OnePackage.{made_of}
 use Rattle.cjc_jvm_semantics.specs.Group.{group_linked, joint}

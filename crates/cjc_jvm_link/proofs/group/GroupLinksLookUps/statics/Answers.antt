@@ -1,7 +1,7 @@
 use Rattle.std.proofs.Common.{List, ap, ◌∙◌}
 use Rattle.cjc_world.specs.declared.image.StaticImage.{StaticImage}
 use Rattle.cjc_world.specs.Files.{Files}
-use Rattle.cjc_jvm_semantics.specs.Script.declared.report.FieldValue.{FieldValue}
+use Rattle.cjc_jvm_step.specs.Script.declared.report.FieldValue.{FieldValue}
 use Rattle.cjc_jvm_semantics.specs.OnePackage.{cells}
 use Rattle.cjc_jvm_semantics.specs.Group.{group_linked, joint}
 use Rattle.cjc_jvm_link.specs.Group.{Grouped}

@@ -1,6 +1,6 @@
 use Rattle.std.proofs.Common.{◌≡◌, ℕ, List, false, sym, ap, subst, ◌∙◌}
 use Rattle.std.specs.Prelude.{Some, None, option_and_then, if◌then◌else◌}
-use Rattle.cjc_jvm_semantics.specs.Bytes.declared.fault.MemberId.{MemberId}
+use Rattle.cjc_world.specs.Bytes.declared.fault.MemberId.{MemberId}
 use Rattle.cjc_world.specs.declared.found.Found.{Found}
 use Rattle.cjc_world.specs.Files.{Files}
 use Rattle.cjc_world.specs.Classes.{Class, all_classes}

@@ -1,7 +1,7 @@
 use Rattle.std.proofs.Common.{◌≡◌, ◌∙◌, ◌+◌, ◌<◌, ap, sym, [], length, get_or, true, false}
 use Rattle.std.specs.Prelude.{Some, None, position, if◌then◌else◌}
 use Rattle.std.proofs.lemmas.Option.{slice_get-get_or}
-use Rattle.cjc_jvm_semantics.specs.Bytes.AccessFlags.{is_static}
+use Rattle.cjc_world.specs.Bytes.AccessFlags.{is_static}
 use Rattle.cjc_world.specs.Classes.{Member}
 use Rattle.cjc_world.specs.Lookup.{is_called, member_at}
 use Rattle.cjc_world.specs.Working.Known.{class_of}

@@ -2,7 +2,7 @@ use Rattle.std.proofs.Common.{rules, ◌≡◌, ◌<◌, ◌%◌, ap, ◌∙◌,
 use Rattle.std.specs.Int.{w32, int_shl, cast_unsigned}
 use Rattle.std.specs.Prelude.{FitsSigned}
 use Rattle.std.proofs.lemmas.Int.{to_z-of_z}
-use Rattle.cjc_jvm_semantics.specs.Range.Words.{shift_distance}
+use Rattle.cjc_jvm_semantics.specs.LowerRange.Words.{shift_distance}
 use Rattle.cjc_jvm_step.proofs.FrameLaws.Shifts.{shifted_up}
 use Rattle.cjc_jvm_step.proofs.frame.number.left_shift_of.Goals as goal
 

@@ -3,7 +3,7 @@ use Rattle.std.specs.Int.{w32, int_wrapping_neg}
 use Rattle.std.specs.Int.RustNames.{int_div}
 use Rattle.std.specs.Prelude.{FitsSigned}
 use Rattle.std.proofs.lemmas.Int.{ints, to_z-of_z, wrapping_neg_is}
-use Rattle.cjc_jvm_semantics.specs.Range.Words.{wide}
+use Rattle.cjc_jvm_semantics.specs.LowerRange.Words.{wide}
 use Rattle.cjc_jvm_step.proofs.FrameLaws.Cuts.{quotient-minus_one}
 use Rattle.cjc_jvm_step.proofs.frame.number.quotient_of.Goals as goal
 

@@ -3,7 +3,7 @@ use Rattle.std.proofs.lemmas.Option.{slice_get-get_or}
 use Rattle.cjc_components.specs.Methods.{placed_methods}
 use Rattle.cjc_components.specs.Names.{names}
 use Rattle.cjc_components.specs.Package.{Package}
-use Rattle.cjc_components.specs.NCode.declared.narrow.NMethod.{NMethod}
+use Rattle.cjc_pool.specs.NCode.declared.narrow.NMethod.{NMethod}
 use Rattle.cjc_methods.specs.declared.layouts.laid.Laid.{Laid}
 use Rattle.cjc_methods.specs.Layouts.Laid.{laid_methods}
 use Rattle.cjc_methods.specs.Component.Emittable.{AreEmittable}

@@ -1,6 +1,6 @@
 use Rattle.std.proofs.Common.{◌≡◌, ◌++◌, drop, map}
 use Rattle.std.specs.List.{flat_map}
-use Rattle.cjc_components.specs.NCode.Lowering.Package.{all_bytes}
+use Rattle.cjc_pool.specs.NCode.Lowering.Package.{all_bytes}
 use Rattle.cjc_components.specs.Components.{places_in}
 use Rattle.cjc_components.specs.Methods.{placed_methods}
 use Rattle.cjc_components.specs.Names.{names}

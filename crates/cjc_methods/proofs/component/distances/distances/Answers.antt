@@ -1,5 +1,5 @@
 use Rattle.std.proofs.Common.{◌∙◌, ap, ◌++◌, ℕ}
-use Rattle.cjc_check.specs.CheckRules.Locations.{distance}
+use Rattle.cjc_pool.specs.CheckRules.Locations.{distance}
 use Rattle.cjc_check.proofs.JumpsLaws.Listed.{distances_all, distances_more}
 use Rattle.cjc_bytes.proofs.Gets.{same_item}
 use Rattle.cjc_methods.proofs.component.distances.distances.Goals as goal

@@ -1,5 +1,5 @@
 use Rattle.std.proofs.Common.{◌≡◌, ◌++◌, drop}
-use Rattle.cjc_check.specs.CheckRules.Locations.{distances}
+use Rattle.cjc_pool.specs.CheckRules.Locations.{distances}
 use Rattle.cjc_methods.proofs.component.distances.distances.Given as goal
 
 abbrev pub invariant-loop-at : goal.invariant-loop-at

@@ -1,5 +1,5 @@
 use Rattle.std.proofs.Common.{◌∙◌, ap, ◌++◌, List, ℕ, ◌-◌}
-use Rattle.cjc_check.specs.CheckRules.Locations.{distance}
+use Rattle.cjc_pool.specs.CheckRules.Locations.{distance}
 use Rattle.cjc_check.proofs.JumpsLaws.Listed.{full_more}
 use Rattle.cjc_methods.proofs.component.distances.put_distance.Goals as goal
 

@@ -1,5 +1,5 @@
 use Rattle.std.proofs.Common.{◌≡◌, ◌++◌}
-use Rattle.cjc_check.specs.CheckRules.Locations.{distance}
+use Rattle.cjc_pool.specs.CheckRules.Locations.{distance}
 use Rattle.cjc_methods.proofs.component.distances.put_distance.Given as goal
 
 abbrev pub invariant-loop-left : goal.invariant-loop-left

@@ -1,9 +1,9 @@
 use Rattle.std.proofs.Common.{◌<◌, ◌++◌, ◌∙◌, sym, ap, subst, ℕ, List, length, get_or, map}
 use Rattle.std.proofs.lemmas.Option.{slice_get-get_or}
-use Rattle.cjc_components.specs.Layout.OnCard.{handler_on_card}
-use Rattle.cjc_components.specs.Layout.declared.layout.Handler.{Handler as Placed}
+use Rattle.cjc_pool.specs.Layout.OnCard.{handler_on_card}
+use Rattle.cjc_pool.specs.Layout.declared.layout.Handler.{Handler as Placed}
 use Rattle.cjc_components.specs.Names.{names}
-use Rattle.cjc_components.specs.NCode.declared.narrow.NMethod.{NMethod}
+use Rattle.cjc_pool.specs.NCode.declared.narrow.NMethod.{NMethod}
 use Rattle.cjc_methods.proofs.ComponentLaws.Standing.{as_many_laid, by_keys, handlers_more, read_by, read_one}
 use Rattle.cjc_methods.proofs.ComponentLaws.Standing.{read_there}
 use Rattle.cjc_methods.proofs.component.handlers.all_handlers.Goals as goal

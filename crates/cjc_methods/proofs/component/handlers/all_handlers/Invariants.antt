@@ -1,5 +1,5 @@
 use Rattle.std.proofs.Common.{◌≡◌, ◌++◌, drop, map}
-use Rattle.cjc_components.specs.NCode.Lowering.Package.{all_handlers}
+use Rattle.cjc_pool.specs.NCode.Lowering.Package.{all_handlers}
 use Rattle.cjc_components.specs.Methods.{placed_methods}
 use Rattle.cjc_components.specs.Names.{names}
 use Rattle.cjc_components.specs.Package.{Package}

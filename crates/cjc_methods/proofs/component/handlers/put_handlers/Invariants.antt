@@ -1,6 +1,6 @@
 use Rattle.std.proofs.Common.{◌≡◌, ◌++◌, drop, map}
-use Rattle.cjc_components.specs.NCode.Lowering.Naming.{Naming}
-use Rattle.cjc_components.specs.Layout.OnCard.{handler_on_card}
+use Rattle.cjc_pool.specs.NCode.Lowering.Naming.{Naming}
+use Rattle.cjc_pool.specs.Layout.OnCard.{handler_on_card}
 use Rattle.cjc_methods.specs.Component.Working.Parts.{IsIndexed}
 use Rattle.cjc_methods.proofs.component.handlers.put_handlers.Given as goal
 

@@ -1,5 +1,5 @@
 use Rattle.std.proofs.Common.{◌∙◌, ap, ℕ, ◌++◌, drop, ◌+◌}
-use Rattle.cjc_check.specs.CheckRules.Locations.{catch_places}
+use Rattle.cjc_pool.specs.CheckRules.Locations.{catch_places}
 use Rattle.cjc_check.proofs.JumpsLaws.Listed.{catch_all, catch_more}
 use Rattle.cjc_bytes.proofs.Gets.{same_item}
 use Rattle.cjc_methods.proofs.component.places.put_catches.Goals as goal

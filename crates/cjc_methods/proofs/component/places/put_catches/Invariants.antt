@@ -1,5 +1,5 @@
 use Rattle.std.proofs.Common.{◌≡◌, ◌++◌, drop}
-use Rattle.cjc_check.specs.CheckRules.Locations.{catch_places}
+use Rattle.cjc_pool.specs.CheckRules.Locations.{catch_places}
 use Rattle.cjc_methods.proofs.component.places.put_catches.Given as goal
 
 abbrev pub invariant-loop-handler : goal.invariant-loop-handler

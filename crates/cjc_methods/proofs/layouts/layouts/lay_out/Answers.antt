@@ -1,5 +1,5 @@
 use Rattle.std.proofs.Common.{subst, List}
-use Rattle.cjc_components.specs.NCode.declared.narrow.NMethod.{NMethod}
+use Rattle.cjc_pool.specs.NCode.declared.narrow.NMethod.{NMethod}
 use Rattle.cjc_methods.specs.Layouts.Working.Tries.{AreAll}
 use Rattle.cjc_methods.proofs.LayoutsLaws.Kept.{are_of}
 use Rattle.cjc_methods.proofs.layouts.layouts.lay_out.Goals as goal

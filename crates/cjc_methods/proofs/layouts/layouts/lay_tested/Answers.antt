@@ -1,7 +1,7 @@
 use Rattle.std.proofs.Common.{◌≡◌, ◌++◌, subst, List, [], length, nat_lt}
 use Rattle.std.specs.Prelude.{IfErr, ◌||◌}
 use Rattle.cjc_bytes.specs.Breaks.{Break, IsFirstRefusal, at, each, list_spot}
-use Rattle.cjc_components.specs.NCode.PoolOrder.{pool_order}
+use Rattle.cjc_pool.specs.NCode.PoolOrder.{pool_order}
 use Rattle.cjc_methods.specs.Layouts.Working.Tries.{code_breaks}
 use Rattle.cjc_methods.proofs.LayoutsLaws.Tested.{fine_where, forms_are, on_ok, own_files, some_package}
 use Rattle.cjc_methods.proofs.layouts.layouts.lay_tested.Goals as goal

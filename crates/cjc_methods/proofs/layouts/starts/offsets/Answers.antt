@@ -1,5 +1,5 @@
 use Rattle.std.proofs.Common.{◌∙◌, ap, ℕ, List, length}
-use Rattle.cjc_components.specs.NCode.declared.narrow.NMethod.{NMethod}
+use Rattle.cjc_pool.specs.NCode.declared.narrow.NMethod.{NMethod}
 use Rattle.cjc_methods.specs.declared.layouts.laid.Laid.{Laid}
 use Rattle.cjc_methods.specs.Layouts.Working.Offsets.{offsets_from}
 use Rattle.cjc_methods.proofs.LayoutsLaws.Standing.{all_offsets, offsets_long}

@@ -1,6 +1,6 @@
 use Rattle.std.proofs.Common.{◌≡◌, ◌+◌, ◌<◌, ◌≤◌, ◌*◌, ◌^◌, map, length}
-use Rattle.cjc_jvm_semantics.specs.Script.Sorts.{sort_of}
-use Rattle.cjc_ncode.specs.CardSemantics.Bytecode.Arguments.{widths}
+use Rattle.cjc_jvm_semantics.specs.LowerScript.Sorts.{sort_of}
+use Rattle.cjc_ncode.specs.LowerCardSemantics.Bytecode.Arguments.{widths}
 use Rattle.cjc_narrow.proofs.written.descriptor.widths.Given as goal
 
 abbrev pub invariant-loop-kind : goal.invariant-loop-kind

@@ -2,8 +2,8 @@ use Rattle.std.proofs.Common.{arith, rules, sym}
 use Rattle.std.specs.Prelude.{nat_lt}
 use Rattle.std.proofs.lemmas.List.Sorted.{IsPartitionPoint-from_clause, IsPartitionedBy-ltb}
 use Rattle.std.proofs.lemmas.List.Sums.{prefix_len_is}
-use Rattle.cjc_ncode.specs.Bytecode.declared.insn.JInsn.{JInsn}
-use Rattle.cjc_ncode.specs.Bytecode.declared.insn.JOp.TheVariants as jop
+use Rattle.cjc_types.specs.Bytecode.declared.insn.JInsn.{JInsn}
+use Rattle.cjc_types.specs.Bytecode.declared.insn.JOp.TheVariants as jop
 use Rattle.cjc_narrow.proofs.WrittenLaws.Order.{rising}
 use Rattle.cjc_narrow.proofs.written.places.place_before.Goals as goal
 

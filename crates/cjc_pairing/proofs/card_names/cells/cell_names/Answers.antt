@@ -1,6 +1,6 @@
 use Rattle.std.proofs.Common.{ap, ◌∙◌}
 use Rattle.std.specs.List.{flat_map}
-use Rattle.cjc_classes.specs.Components.Paired.Naming.{cells_in}
+use Rattle.cjc_classes.specs.LowerComponents.Paired.Naming.{cells_in}
 use Rattle.cjc_pairing.specs.CardNames.Working.Cells.{beside, cells_by}
 use Rattle.cjc_pairing.proofs.CardNames.ByOffset.{cells_are}
 use Rattle.cjc_pairing.proofs.card_names.cells.cell_names.Goals as goal

@@ -1,5 +1,5 @@
 use Rattle.std.proofs.Common.{◌≡◌, ◌++◌, drop, map}
-use Rattle.cjc_card_link.specs.CardFrame.Kinds.{cell_name_of}
+use Rattle.cjc_card_link.specs.LowerCardFrame.Kinds.{cell_name_of}
 use Rattle.cjc_pairing.specs.CardNames.Working.Cells.{beside, cell_where, cells_by}
 use Rattle.cjc_pairing.proofs.card_names.cells.put_cells.Given as goal
 

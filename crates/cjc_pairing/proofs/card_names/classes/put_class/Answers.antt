@@ -2,7 +2,7 @@ use Rattle.std.proofs.Common.{◌≡◌, ◌≤◌, List, length, slice_get, ref
 use Rattle.std.proofs.lemmas.Bool.Decides.{nat_tests}
 use Rattle.std.proofs.lemmas.Option.{slice_get_past, slice_get_read}
 use Rattle.std.proofs.lemmas.Result.{on_ok_weaker}
-use Rattle.cjc_card_link.specs.ClassFile.declared.tree.ClassTree.{ClassTree}
+use Rattle.cjc_classes.specs.ClassFile.declared.tree.ClassTree.{ClassTree}
 use Rattle.cjc_pairing.proofs.CardNames.ByNumber.{none_there, some_there}
 use Rattle.cjc_pairing.proofs.card_names.classes.put_class.Goals as goal
 

@@ -1,9 +1,9 @@
 use Rattle.std.proofs.Common.{◌≡◌, ap, ◌∙◌, sym, true, arith}
 use Rattle.std.specs.List.{flat_map}
-use Rattle.cjc_classes.specs.Bytes.AccessFlags.{is_interface}
-use Rattle.cjc_classes.specs.Tokens.Methods.{interface_methods}
-use Rattle.cjc_classes.specs.Tokens.Working.{signs}
-use Rattle.cjc_classes.specs.World.Classes.{all_classes, declared}
+use Rattle.cjc_card_link.specs.Bytes.AccessFlags.{is_interface}
+use Rattle.cjc_classes.specs.LowerTokens.Methods.{interface_methods}
+use Rattle.cjc_classes.specs.LowerTokens.Working.{signs}
+use Rattle.cjc_card_link.specs.World.Classes.{all_classes, declared}
 use Rattle.cjc_pairing.specs.CardNames.Working.Classes.{name_in}
 use Rattle.cjc_pairing.proofs.CardNames.ByNumber.{interface_is, slots_are}
 use Rattle.cjc_pairing.proofs.card_names.methods.interface_names.Goals as goal

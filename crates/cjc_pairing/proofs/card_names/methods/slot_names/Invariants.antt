@@ -1,6 +1,6 @@
 use Rattle.std.proofs.Common.{◌≡◌, ◌++◌, drop, map}
 use Rattle.std.specs.List.{flat_map}
-use Rattle.cjc_classes.specs.Tokens.Working.{signs}
+use Rattle.cjc_classes.specs.LowerTokens.Working.{signs}
 use Rattle.cjc_card_link.specs.Names.{method_name_of}
 use Rattle.cjc_pairing.specs.CardNames.Working.Classes.{name_in}
 use Rattle.cjc_pairing.proofs.card_names.methods.slot_names.Given as goal

@@ -2,12 +2,12 @@ use Rattle.std.proofs.Common.{sym, ap, subst, ◌∙◌, List, length}
 use Rattle.std.specs.Prelude.{All, map}
 use Rattle.std.proofs.lemmas.List.{length-map}
 use Rattle.std.proofs.lemmas.Result.{err_from_is_err_and}
-use Rattle.cjc_methods.specs.Components.Written.{code_at}
-use Rattle.cjc_methods.specs.ExportFile.Written.{constants}
-use Rattle.cjc_exported.specs.Layout.Layouts.{IsWhole}
-use Rattle.cjc_narrow_proof.specs.Narrow.Rows.Selected.{near_fields}
-use Rattle.cjc_methods.specs.NCode.PoolOrder.{pool_order}
-use Rattle.cjc_methods.specs.NCode.declared.narrow.NMethod.{NMethod}
+use Rattle.cjc_exported.specs.Components.Written.{code_at}
+use Rattle.cjc_narrow_proof.specs.ExportFile.Written.{constants}
+use Rattle.cjc_methods.specs.Layout.Layouts.{IsWhole}
+use Rattle.cjc_methods.specs.Narrow.Rows.Selected.{near_fields}
+use Rattle.cjc_narrow_proof.specs.NCode.PoolOrder.{pool_order}
+use Rattle.cjc_narrow_proof.specs.NCode.declared.narrow.NMethod.{NMethod}
 use Rattle.cjc_shape.proofs.PreparedLaws.Sound.{are_ready, few_cells, few_exported, has_tokens, no_image_break}
 use Rattle.cjc_shape.proofs.WholeLaws.Drafts.{draft, is_draft, rows, rows_are}
 use Rattle.cjc_shape.proofs.WholeLaws.Ints.{draft_ints, draft_refused, free_here}

@@ -1,7 +1,7 @@
-use Rattle.cjc_shape_proof.specs.CheckProof.Consistent.Premises.{HasSoundFiles, HasSoundMethods, HasSoundNames}
+use Rattle.cjc_shape_proof.specs.LowerCheckProof.Consistent.Premises.{HasSoundFiles, HasSoundMethods, HasSoundNames}
 use Rattle.cjc_theorem.proofs.AlikeLaws.ConvertedLaws.Sizes.{sizes_kept}
 use Rattle.cjc_theorem.proofs.alike.converted_laws.converted_components_are_consistent.Goals as goal
-use Rattle.cjc_shape_proof.specs.Judge.Rules.{settings_of}
+use Rattle.cjc_shape_proof.specs.LowerJudge.Rules.{settings_of}
 use Rattle.cjc_shape_proof.proofs.WrittenLaws.Files.{is_kept}
 
 pub returns : goal.returns

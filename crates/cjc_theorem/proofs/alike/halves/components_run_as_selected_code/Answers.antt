@@ -1,12 +1,12 @@
 use Rattle.std.proofs.Common.{◌≡◌, ℕ, refl, sym, subst}
 use Rattle.std.specs.Prelude.{◌≢◌, nat_lt, length}
-use Rattle.cjc_ncode.specs.CardSemantics.Machine.ByToken.{run as run_by_token}
+use Rattle.cjc_token_proof.specs.CardSemantics.Machine.ByToken.{run as run_by_token}
 use Rattle.cjc_components.specs.Paired.Naming.{loaded_of}
-use Rattle.cjc_shape_proof.specs.Judge.Rules.{has_applets, settings_of}
-use Rattle.cjc_components.specs.List.Listed.{ListTree}
-use Rattle.cjc_jvm_semantics.specs.Script.declared.report.Outcome.TheVariants.{Stuck}
-use Rattle.cjc_jvm_semantics.specs.Script.declared.report.Report.{Report}
-use Rattle.cjc_jvm_semantics.specs.Script.declared.script.Script.{Script}
+use Rattle.cjc_shape_proof.specs.LowerJudge.Rules.{has_applets, settings_of}
+use Rattle.cjc_token_proof.specs.List.Listed.{ListTree}
+use Rattle.cjc_token_proof.specs.Script.declared.report.Outcome.TheVariants.{Stuck}
+use Rattle.cjc_token_proof.specs.Script.declared.report.Report.{Report}
+use Rattle.cjc_token_proof.specs.Script.declared.script.Script.{Script}
 use Rattle.cjc_shape_proof.proofs.ShapeSecond.{ints_of}
 use Rattle.cjc_theorem.proofs.AlikeLaws.Converted.{is_converted, own_checks, own_package}
 use Rattle.cjc_theorem.proofs.alike.halves.components_run_as_selected_code.Goals as goal

@@ -1,4 +1,4 @@
-use Rattle.cjc_shape_proof.specs.Judge.Rules.{settings_of}
+use Rattle.cjc_shape_proof.specs.LowerJudge.Rules.{settings_of}
 use Rattle.cjc_theorem.proofs.AlikeLaws.Converted.{judged_checks, judged_package}
 use Rattle.cjc_theorem.proofs.SoundRuns.Alike.{selected_code}
 use Rattle.cjc_theorem.proofs.alike.halves.selected_code_behaves_alike.Goals as goal

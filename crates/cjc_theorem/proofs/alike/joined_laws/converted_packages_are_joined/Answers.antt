@@ -1,7 +1,7 @@
 use Rattle.cjc_code.specs.PackageCodes.{all_codes}
 use Rattle.cjc_theorem.proofs.AlikeLaws.JoinedLaws.Faults.{faults_are_classes}
 use Rattle.cjc_theorem.proofs.alike.joined_laws.converted_packages_are_joined.Goals as goal
-use Rattle.cjc_shape_proof.specs.Judge.Rules.{settings_of}
+use Rattle.cjc_shape_proof.specs.LowerJudge.Rules.{settings_of}
 use Rattle.cjc_shape_proof.proofs.WrittenLaws.Files.{is_kept}
 
 pub returns : goal.returns

@@ -6,7 +6,7 @@ use Rattle.cjc_theorem.proofs.AlikeLaws.MetLaws.KeySources.{key_met}
 use Rattle.cjc_theorem.proofs.AlikeLaws.MetLaws.There.{key_there}
 use Rattle.cjc_theorem.proofs.alike.met_laws.members_are_there.Goals as goal
 use Rattle.cjc_token_proof.specs.Tables.Known.{statics_of}
-use Rattle.cjc_shape_proof.specs.CheckProof.Keys.{IsThere}
+use Rattle.cjc_shape_proof.specs.LowerCheckProof.Keys.{IsThere}
 use Rattle.cjc_vtable.proofs.Filed.{has-get}
 
 pub returns : goal.returns

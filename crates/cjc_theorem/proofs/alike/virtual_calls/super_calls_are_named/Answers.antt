@@ -1,4 +1,4 @@
-use Rattle.cjc_shape_proof.specs.Judge.Rules.{settings_of}
+use Rattle.cjc_shape_proof.specs.LowerJudge.Rules.{settings_of}
 use Rattle.cjc_shape_proof.proofs.WrittenLaws.Files.{own_unbroken}
 use Rattle.cjc_theorem.proofs.AlikeLaws.VirtualCalls.Supers.{super_named}
 use Rattle.cjc_theorem.proofs.AlikeLaws.VirtualCalls.Words.{exports_have_one_access, super_takes}

@@ -1,4 +1,4 @@
-use Rattle.cjc_shape_proof.specs.Judge.Rules.{settings_of}
+use Rattle.cjc_shape_proof.specs.LowerJudge.Rules.{settings_of}
 use Rattle.cjc_theorem.proofs.AlikeLaws.VirtualCalls.Objects.{virtual_named}
 use Rattle.cjc_theorem.proofs.AlikeLaws.VirtualCalls.Words.{exports_have_one_access, virtual_takes}
 use Rattle.cjc_theorem.proofs.alike.virtual_calls.virtual_calls_are_named.Goals as goal

@@ -1,6 +1,6 @@
 use Rattle.std.proofs.Common.{map, ap, ◌∙◌}
 use Rattle.cjc_classes.specs.Descriptor.Keys.{key_cell}
-use Rattle.cjc_classes.specs.Components.Statics.{cell_offset}
+use Rattle.cjc_classes.specs.LowerComponents.Statics.{cell_offset}
 use Rattle.cjc_verify.proofs.DescribedLaws.Entries.{cells_are}
 use Rattle.cjc_verify.proofs.described.cells.cells_of.Goals as goal
 

@@ -1,5 +1,5 @@
 use Rattle.cjc_bytes.specs.declared.fault.MemberId.{MemberId}
-use Rattle.cjc_pairing.specs.NCode.declared.narrow.PoolKey.TheVariants.{StaticField}
+use Rattle.cjc_classes.specs.NCode.declared.narrow.PoolKey.TheVariants.{StaticField}
 use Rattle.cjc_verify.proofs.DescribedLaws.Numbers.{in_parts}
 use Rattle.cjc_verify.proofs.described.cells.keys_of.Goals as goal
 

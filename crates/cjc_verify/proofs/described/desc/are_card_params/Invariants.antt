@@ -1,7 +1,7 @@
 use Rattle.std.proofs.Common.{◌≡◌}
 use Rattle.std.specs.List.{list_all}
 use Rattle.cjc_bytes.specs.Descriptor.{Part}
-use Rattle.cjc_card_calls.specs.Script.Sorts.{sort_of}
+use Rattle.cjc_card_acts.specs.Script.Sorts.{sort_of}
 use Rattle.cjc_verify.specs.Pairs.{is_card_sort}
 use Rattle.cjc_verify.proofs.described.desc.are_card_params.Given as goal
 

@@ -1,6 +1,6 @@
 use Rattle.std.proofs.Common.{ℕ, List, ap, ◌∙◌}
 use Rattle.cjc_classes.specs.ClassInfo.Refs.{ref_of}
-use Rattle.cjc_card_calls.specs.Script.Sorts.{field_sort}
+use Rattle.cjc_card_acts.specs.Script.Sorts.{field_sort}
 use Rattle.cjc_verify.specs.Made.{inputs_of}
 use Rattle.cjc_verify.specs.WantedMembers.{card_nibbles, place_by, type_by}
 use Rattle.cjc_verify.proofs.described.made.field_by.Goals as goal

@@ -1,5 +1,5 @@
 use Rattle.std.proofs.Common.{ℕ, List, ◌+◌, ◌++◌, drop, ap, ◌∙◌}
-use Rattle.cjc_card_calls.specs.ClassFile.declared.tree.FieldTree.{FieldTree}
+use Rattle.cjc_world.specs.ClassFile.declared.tree.FieldTree.{FieldTree}
 use Rattle.cjc_classes.proofs.DescriptorLaws.Rows.{each_next}
 use Rattle.cjc_verify.specs.Made.{inputs_of}
 use Rattle.cjc_verify.specs.WantedMembers.{field_if, fields_by}

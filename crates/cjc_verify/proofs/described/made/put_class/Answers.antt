@@ -1,7 +1,7 @@
 use Rattle.std.proofs.Common.{◌≡◌, ◌≤◌, ◌++◌, List, length, slice_get, sym, ap, ◌∙◌, append-nil, arith, None}
 use Rattle.std.proofs.lemmas.Bool.Decides.{nat_tests}
 use Rattle.std.proofs.lemmas.Option.{slice_get_past}
-use Rattle.cjc_card_calls.specs.ClassFile.declared.tree.ClassTree.{ClassTree}
+use Rattle.cjc_world.specs.ClassFile.declared.tree.ClassTree.{ClassTree}
 use Rattle.cjc_verify.specs.Made.{inputs_of}
 use Rattle.cjc_verify.specs.WantedMembers.{class_where}
 use Rattle.cjc_verify.proofs.described.made.put_class.Goals as goal

@@ -1,5 +1,5 @@
 use Rattle.std.proofs.Common.{◌∙◌, ℕ, List, ap}
-use Rattle.cjc_classes.specs.Components.Class.{superclass}
+use Rattle.cjc_classes.specs.LowerComponents.Class.{superclass}
 use Rattle.cjc_world.specs.Classes.{Class, class_named}
 use Rattle.cjc_verify.specs.Named.{virtual_desc_in}
 use Rattle.cjc_verify.specs.Pairs.{world}

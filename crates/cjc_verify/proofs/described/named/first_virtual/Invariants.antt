@@ -1,6 +1,6 @@
 use Rattle.std.proofs.Common.{◌≡◌, drop}
 use Rattle.cjc_card_calls.specs.Files.Files.{classes_at}
-use Rattle.cjc_card_calls.specs.ExportFile.Supers.{virtual_method}
+use Rattle.cjc_world.specs.ExportFile.Supers.{virtual_method}
 use Rattle.cjc_verify.specs.Named.{first_of}
 use Rattle.cjc_verify.proofs.described.named.first_virtual.Given as goal
 

@@ -1,6 +1,6 @@
 use Rattle.std.proofs.Common.{◌≡◌, ◌∙◌, ℕ, ap, rules, subst}
 use Rattle.cjc_card_calls.specs.Files.Files.{classes_at, line_under}
-use Rattle.cjc_card_calls.specs.CardLink.Tables.{loaded_of}
+use Rattle.cjc_card_calls.specs.LowerCardLink.Tables.{loaded_of}
 use Rattle.cjc_verify.specs.Named.{exported, line_of}
 use Rattle.cjc_verify.specs.Pairs.{Pair}
 use Rattle.cjc_verify.proofs.DescribedLaws.Entries.{line_is}

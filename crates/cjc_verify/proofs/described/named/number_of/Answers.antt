@@ -1,6 +1,6 @@
 use Rattle.std.proofs.Common.{◌≡◌, refl, subst, Some, None}
 use Rattle.std.specs.Prelude.{option_and_then}
-use Rattle.cjc_pairing.specs.ClassOrder.Classes.Numbers.{declared_at}
+use Rattle.cjc_classes.specs.ClassOrder.Classes.Numbers.{declared_at}
 use Rattle.cjc_verify.specs.Pairs.{Pair, class_at}
 use Rattle.cjc_verify.specs.Working.Ready.{pair_by}
 use Rattle.cjc_verify.proofs.DescribedLaws.Entries.{number_is}

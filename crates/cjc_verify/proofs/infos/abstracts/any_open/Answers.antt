@@ -1,5 +1,5 @@
 use Rattle.std.proofs.Common.{◌∙◌, ℕ, Bool, sym}
-use Rattle.cjc_card_calls.specs.CardSemantics.Machine.Dispatch.{Open}
+use Rattle.cjc_card_acts.specs.CardSemantics.Machine.Dispatch.{Open}
 use Rattle.cjc_verify.specs.Abstracts.{any_between, is_abstract_token}
 use Rattle.cjc_verify.proofs.InfosLaws.Abstracts.{any_end, any_next, any_stop}
 use Rattle.cjc_verify.proofs.infos.abstracts.any_open.Goals as goal

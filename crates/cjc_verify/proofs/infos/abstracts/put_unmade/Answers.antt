@@ -1,7 +1,7 @@
 use Rattle.std.proofs.Common.{◌≡◌, ◌∙◌, ◌++◌, ◌∷◌, [], Bool, List, ap, sym, subst, append-nil, refl}
 use Rattle.std.proofs.lemmas.Option.{slice_get_past, slice_get_read}
 use Rattle.std.specs.Prelude.{OnOk, Some, None, slice_get}
-use Rattle.cjc_card_calls.specs.ClassFile.declared.tree.ClassTree.{ClassTree}
+use Rattle.cjc_world.specs.ClassFile.declared.tree.ClassTree.{ClassTree}
 use Rattle.cjc_verify.proofs.InfosLaws.Abstracts.{unmade_nowhere, unmade_there}
 use Rattle.cjc_verify.proofs.infos.abstracts.put_unmade.Goals as goal
 

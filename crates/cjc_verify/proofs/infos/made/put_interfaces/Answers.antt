@@ -2,7 +2,7 @@ use Rattle.std.proofs.Common.{◌++◌, ℕ, refl, map, get_or}
 use Rattle.std.specs.Prelude.{option_to_list}
 use Rattle.std.proofs.lemmas.List.{get_or_default}
 use Rattle.cjc_world.specs.Classes.{all_classes}
-use Rattle.cjc_pairing.specs.ClassOrder.Classes.Numbers.{declared_at}
+use Rattle.cjc_classes.specs.ClassOrder.Classes.Numbers.{declared_at}
 use Rattle.cjc_classes.specs.ClassInfo.Refs.{ref_of}
 use Rattle.cjc_classes.proofs.ClassInfo.Places.{pieces-end, pieces-next}
 use Rattle.cjc_classes.proofs.ClassInfo.Trees.{numbers-more}

@@ -1,9 +1,9 @@
 use Rattle.std.proofs.Common.{◌∙◌, List, ap}
 use Rattle.std.specs.Prelude.{option_map}
-use Rattle.cjc_card_calls.specs.CardSemantics.Machine.Classes.{external_from, or_else}
+use Rattle.cjc_card_acts.specs.CardSemantics.Machine.Classes.{external_from, or_else}
 use Rattle.cjc_classes.specs.ClassInfo.Refs.{ref_in}
-use Rattle.cjc_classes.specs.Components.Names.{ref_to}
-use Rattle.cjc_card_calls.specs.ExportFile.declared.tree.ExportTree.{ExportTree}
+use Rattle.cjc_classes.specs.LowerComponents.Names.{ref_to}
+use Rattle.cjc_world.specs.ExportFile.declared.tree.ExportTree.{ExportTree}
 use Rattle.cjc_verify.proofs.InfosLaws.Refs.{refs_are}
 use Rattle.cjc_verify.proofs.infos.refs.class_refs.Goals as goal
 

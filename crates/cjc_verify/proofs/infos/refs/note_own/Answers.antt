@@ -2,10 +2,10 @@ use Rattle.std.proofs.Common.{◌∙◌, List, sym, ap, get_or, cond}
 use Rattle.std.specs.Prelude.{Some, None}
 use Rattle.std.proofs.lemmas.List.{get_or_default}
 use Rattle.cjc_capread.specs.declared.tree.ClassRef.TheVariants.{Inside}
-use Rattle.cjc_card_calls.specs.CardSemantics.Machine.Classes.{or_else}
+use Rattle.cjc_card_acts.specs.CardSemantics.Machine.Classes.{or_else}
 use Rattle.cjc_classes.specs.ClassInfo.Infos.{number_named}
 use Rattle.cjc_classes.specs.ClassInfo.Refs.{ref_in}
-use Rattle.cjc_card_calls.specs.ClassFile.declared.tree.ClassTree.{ClassTree}
+use Rattle.cjc_world.specs.ClassFile.declared.tree.ClassTree.{ClassTree}
 use Rattle.cjc_verify.proofs.InfosLaws.Refs.{spot_end, spot_more, spot_short}
 use Rattle.cjc_verify.proofs.infos.refs.note_own.Goals as goal
 

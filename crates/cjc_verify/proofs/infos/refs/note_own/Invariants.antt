@@ -1,7 +1,7 @@
 use Rattle.std.proofs.Common.{◌≡◌, ℕ, List, drop}
 use Rattle.std.specs.Prelude.{option_map}
 use Rattle.cjc_capread.specs.declared.tree.ClassRef.TheVariants.{Inside}
-use Rattle.cjc_card_calls.specs.CardSemantics.Machine.Classes.{or_else}
+use Rattle.cjc_card_acts.specs.CardSemantics.Machine.Classes.{or_else}
 use Rattle.cjc_classes.specs.ClassInfo.Refs.{ref_in}
 use Rattle.cjc_verify.specs.Refs.{spot_by}
 use Rattle.cjc_verify.proofs.infos.refs.note_own.Given as goal

@@ -1,5 +1,5 @@
 use Rattle.std.proofs.Common.{◌∙◌}
-use Rattle.cjc_card_calls.specs.CardLink.Tables.{loaded_of}
+use Rattle.cjc_card_calls.specs.LowerCardLink.Tables.{loaded_of}
 use Rattle.cjc_card.proofs.GroupLaws.Near.{near_alone}
 use Rattle.cjc_card.proofs.group.group.Group.new.Goals as goal
 

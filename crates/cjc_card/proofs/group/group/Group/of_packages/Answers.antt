@@ -1,7 +1,7 @@
 use Rattle.std.proofs.Common.{◌≡◌, List, map, true, ◌∙◌, subst}
-use Rattle.cjc_card_calls.specs.CardLink.declared.part.GroupPart.{GroupPart}
-use Rattle.cjc_card_calls.specs.CardLink.Group.{group_part}
-use Rattle.cjc_card_calls.specs.CardLink.Tables.{loaded_of}
+use Rattle.cjc_card_calls.specs.LowerCardLink.declared.part.GroupPart.{GroupPart}
+use Rattle.cjc_card_calls.specs.LowerCardLink.Group.{group_part}
+use Rattle.cjc_card_calls.specs.LowerCardLink.Tables.{loaded_of}
 use Rattle.cjc_card_calls.specs.Lines.Handlers.{are_parts_near}
 use Rattle.cjc_card.proofs.GroupLaws.Near.{near_group}
 use Rattle.cjc_card.proofs.group.group.Group.of_packages.Goals as goal

@@ -1,8 +1,8 @@
 use Rattle.std.proofs.Common.{List, ap, ◌∙◌}
 use Rattle.std.specs.Prelude.{slice_get}
-use Rattle.cjc_card_frame.specs.ExportFile.declared.tree.ExportClass.{ExportClass}
-use Rattle.cjc_card_frame.specs.ExportFile.declared.tree.ExportTree.{ExportTree}
-use Rattle.cjc_card_frame.specs.ExportFile.Supers.{classes_of}
+use Rattle.cjc_card_semantics.specs.ExportFile.declared.tree.ExportClass.{ExportClass}
+use Rattle.cjc_card_semantics.specs.ExportFile.declared.tree.ExportTree.{ExportTree}
+use Rattle.cjc_card_semantics.specs.ExportFile.Supers.{classes_of}
 use Rattle.cjc_card_link.specs.Tables.{loaded_of}
 use Rattle.cjc_card_calls.specs.Files.Files.{line_listed}
 use Rattle.cjc_card_calls.proofs.FilesLaws.Lines.{line_there, none_read}

@@ -1,7 +1,7 @@
 use Rattle.std.proofs.Common.{refl}
 use Rattle.std.specs.Prelude.{if◌then◌else◌, Some, None}
 use Rattle.std.specs.Str.{bytes_eq}
-use Rattle.cjc_card_frame.specs.ExportFile.Supers.{class_named}
+use Rattle.cjc_card_semantics.specs.ExportFile.Supers.{class_named}
 use Rattle.cjc_card_link.proofs.OrElse.{note_more, note_all}
 use Rattle.cjc_card_calls.proofs.FilesLaws.ByName.{one_class}
 use Rattle.cjc_card_calls.proofs.files.named.ByName.keep_all.Goals as goal

@@ -1,5 +1,5 @@
 use Rattle.std.proofs.Common.{◌≡◌, ℕ, List, drop}
-use Rattle.cjc_card_frame.specs.ExportFile.Supers.{class_named}
+use Rattle.cjc_card_semantics.specs.ExportFile.Supers.{class_named}
 use Rattle.cjc_card_semantics.specs.Machine.Classes.{or_else}
 use Rattle.cjc_card_calls.specs.Files.Named.{class_under}
 use Rattle.cjc_card_calls.proofs.files.named.ByName.keep_all.Given as goal

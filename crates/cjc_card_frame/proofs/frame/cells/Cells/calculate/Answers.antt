@@ -1,4 +1,4 @@
-use Rattle.cjc_jvm_step.specs.CapRead.Decoder.Decoded.{values}
+use Rattle.cjc_card_semantics.specs.CapRead.Decoder.Decoded.{values}
 use Rattle.cjc_card_frame.proofs.frame.cells.Cells.calculate.Goals as goal
 
 pub returns-in-Store : goal.returns-in-Store

@@ -1,5 +1,5 @@
 use Rattle.std.proofs.Common.{◌≡◌, ◌<◌, ◌≤◌, suc, ◌-◌, ap, sym, ◌∙◌, arith, List}
-use Rattle.cjc_card_semantics.specs.LowerScript.declared.value.Value.{Value}
+use Rattle.cjc_card_semantics.specs.Script.declared.value.Value.{Value}
 use Rattle.cjc_card_frame.specs.Frame.Frames.{Words}
 use Rattle.cjc_card_frame.proofs.FrameLaws.Copies.{copied_from, one_copied}
 use Rattle.cjc_card_frame.proofs.frame.cells.Cells.copy_under.Goals as goal

@@ -2,7 +2,7 @@ use Rattle.std.proofs.Common.{◌≡◌, rules, ap, sym, ◌∙◌, ◌+ℤ◌}
 use Rattle.std.specs.Prelude.{FitsSigned}
 use Rattle.std.specs.Int.{w32}
 use Rattle.std.proofs.lemmas.Int.{to_z-of_z}
-use Rattle.cjc_jvm_step.specs.Range.Words.{low_word, wide}
+use Rattle.cjc_card_semantics.specs.Range.Words.{low_word, wide}
 use Rattle.cjc_card_semantics.specs.Bytecode.Calculations.{Fine}
 use Rattle.cjc_card_frame.specs.Frame.Frames.{Words, number_of}
 use Rattle.cjc_card_frame.proofs.FrameLaws.Increases.{word_increases}

@@ -2,8 +2,8 @@ use Rattle.std.proofs.Common.{◌≡◌, rules, ap, sym, ◌∙◌, ◌+◌, ◌
 use Rattle.std.specs.Prelude.{FitsSigned, Some, slice_set}
 use Rattle.std.specs.Int.{w32}
 use Rattle.std.proofs.lemmas.Int.{to_z-of_z}
-use Rattle.cjc_card_semantics.specs.LowerScript.declared.value.Value.TheVariants.{Num}
-use Rattle.cjc_jvm_step.specs.Range.Words.{low_word}
+use Rattle.cjc_card_semantics.specs.Script.declared.value.Value.TheVariants.{Num}
+use Rattle.cjc_card_semantics.specs.Range.Words.{low_word}
 use Rattle.cjc_card_semantics.specs.Bytecode.Numbers.{high_word, spelt_by}
 use Rattle.cjc_card_semantics.specs.Bytecode.Calculations.{Fine}
 use Rattle.cjc_card_frame.specs.Frame.Frames.{Words}

@@ -1,6 +1,6 @@
 use Rattle.std.proofs.Common.{refl}
 use Rattle.cjc_card_semantics.specs.Bytecode.Calculations.{swap_x}
-use Rattle.cjc_jvm_step.specs.CapRead.Decoder.Decoded.{values}
+use Rattle.cjc_card_semantics.specs.CapRead.Decoder.Decoded.{values}
 use Rattle.cjc_card_frame.proofs.FrameLaws.Nibbles.{no_nibbles}
 use Rattle.cjc_card_frame.proofs.frame.cells.Cells.swap_by.Goals as goal
 

@@ -1,5 +1,5 @@
 use Rattle.std.proofs.Common.{◌∙◌, arith}
-use Rattle.cjc_check_rules.specs.LowerExportFile.Supers.{classes_of}
+use Rattle.cjc_check_rules.specs.ExportFile.Supers.{classes_of}
 use Rattle.cjc_check_rules.specs.Classes.{imported}
 use Rattle.cjc_check_index.specs.Imported.Tokens.{has_field}
 use Rattle.cjc_check_index.proofs.ImportedLaws.Answers.{fields_told, answer_by_token_is}

@@ -1,5 +1,5 @@
 use Rattle.std.proofs.Common.{◌∙◌, arith}
-use Rattle.cjc_check_rules.specs.LowerExportFile.Supers.{classes_of}
+use Rattle.cjc_check_rules.specs.ExportFile.Supers.{classes_of}
 use Rattle.cjc_check_rules.specs.Classes.{imported}
 use Rattle.cjc_check_index.specs.Imported.Tokens.{static_field}
 use Rattle.cjc_check_index.proofs.ImportedLaws.Answers.{static_fields_told, answer_of_class_is}

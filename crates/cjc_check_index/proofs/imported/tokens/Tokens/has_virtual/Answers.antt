@@ -1,5 +1,5 @@
 use Rattle.std.proofs.Common.{◌∙◌, sym, arith}
-use Rattle.cjc_check_rules.specs.LowerExportFile.Supers.{classes_of, has_virtual}
+use Rattle.cjc_check_rules.specs.ExportFile.Supers.{classes_of, has_virtual}
 use Rattle.cjc_check_rules.specs.Classes.{imported}
 use Rattle.cjc_check_index.proofs.ImportedLaws.Answers.{virtuals_told, answer_by_token_is}
 use Rattle.cjc_check_index.proofs.imported.tokens.Tokens.has_virtual.Goals as goal

@@ -1,5 +1,5 @@
 use Rattle.std.proofs.Common.{◌∙◌, sym, arith}
-use Rattle.cjc_check_rules.specs.LowerExportFile.Supers.{classes_of, inherits_virtual}
+use Rattle.cjc_check_rules.specs.ExportFile.Supers.{classes_of, inherits_virtual}
 use Rattle.cjc_check_rules.specs.Classes.{imported}
 use Rattle.cjc_check_index.proofs.ImportedLaws.Answers.{inherited_told, answer_by_token_is}
 use Rattle.cjc_check_index.proofs.imported.tokens.Tokens.inherits_virtual.Goals as goal

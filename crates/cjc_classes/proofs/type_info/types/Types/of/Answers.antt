@@ -1,8 +1,8 @@
 use Rattle.std.proofs.Common.{◌≡◌, ℕ, List, ap, ◌∙◌, map}
 use Rattle.std.specs.List.{flat_map}
-use Rattle.cjc_components.specs.CheckRules.Spots.{starts}
-use Rattle.cjc_components.specs.CheckRules.Complete.{type_size}
-use Rattle.cjc_components.specs.ClassOrder.Supers.Working.Walk.{with_all}
+use Rattle.cjc_components.specs.LowerCheckRules.Spots.{starts}
+use Rattle.cjc_components.specs.LowerCheckRules.Complete.{type_size}
+use Rattle.cjc_components.specs.LowerClassOrder.Supers.Working.Walk.{with_all}
 use Rattle.cjc_components.specs.Types.{desc_of_key, type_descriptor}
 use Rattle.cjc_classes.specs.ClassInfo.Refs.{ref_of}
 use Rattle.cjc_classes.specs.TypeInfo.Working.Descs.{descs_at, nibbles_of_each}

@@ -1,8 +1,8 @@
 use Rattle.std.proofs.Common.{◌≡◌, ◌∷◌, List, ap, ◌∙◌, subst}
 use Rattle.std.specs.Prelude.{IfOk, option_map, if◌then◌else◌}
 use Rattle.std.proofs.lemmas.Result.{IfOk-weaker}
-use Rattle.cjc_jvm_semantics.specs.Script.declared.report.Outcome.TheVariants.{Unfit}
-use Rattle.cjc_jvm_semantics.specs.CardSemantics.Bytecode.Runs.{Over}
+use Rattle.cjc_jvm_step.specs.Script.declared.report.Outcome.TheVariants.{Unfit}
+use Rattle.cjc_jvm_step.specs.CardSemantics.Bytecode.Runs.{Over}
 use Rattle.cjc_jvm_semantics.specs.Machine.{Frame, State, report, after_answer, after_reply}
 use Rattle.cjc_jvm.specs.Acts.Meant.{sort_meant}
 use Rattle.cjc_jvm_step.specs.Step.Rows.{store_of}

@@ -1,7 +1,7 @@
 use Rattle.std.proofs.Common.{◌≡◌, sym, ap, ◌∙◌}
 use Rattle.std.specs.Prelude.{Some}
 use Rattle.std.proofs.lemmas.Result.{IfOk-weaker}
-use Rattle.cjc_jvm_semantics.specs.Script.Sorts.{signature_of}
+use Rattle.cjc_jvm_step.specs.Script.Sorts.{signature_of}
 use Rattle.cjc_jvm_semantics.specs.Machine.{State, holder_of, after_lookup, with_types}
 use Rattle.cjc_jvm.proofs.TurnsLaws.Leading.{leads_as}
 use Rattle.cjc_jvm.proofs.TurnsLaws.Receivers.{found_call}

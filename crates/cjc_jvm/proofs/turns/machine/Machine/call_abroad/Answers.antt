@@ -1,7 +1,7 @@
 use Rattle.std.proofs.Common.{◌≡◌, sym, ap, ◌∙◌, true}
 use Rattle.std.specs.Prelude.{None, option_map, if◌then◌else◌}
 use Rattle.std.proofs.lemmas.Result.{IfOk-weaker}
-use Rattle.cjc_jvm_semantics.specs.Script.declared.report.Note.TheVariants.{Event}
+use Rattle.cjc_jvm_step.specs.Script.declared.report.Note.TheVariants.{Event}
 use Rattle.cjc_jvm_semantics.specs.OnePackage.{of_class}
 use Rattle.cjc_jvm_semantics.specs.Machine.{State, is_at_once, offset, with_note, after_answer, after_result}
 use Rattle.cjc_jvm.specs.Acts.Meant.{sort_meant}

@@ -1,8 +1,8 @@
 use Rattle.std.proofs.Common.{◌≡◌, ◌∷◌, sym, ap, ◌∙◌, drop}
 use Rattle.std.specs.Prelude.{option_map, slice_get}
 use Rattle.std.proofs.lemmas.Result.{IfOk-weaker}
-use Rattle.cjc_jvm_semantics.specs.Script.declared.value.Value.{Value}
-use Rattle.cjc_jvm_semantics.specs.Script.declared.value.Value.TheVariants.{Obj}
+use Rattle.cjc_jvm_step.specs.Script.declared.value.Value.{Value}
+use Rattle.cjc_jvm_step.specs.Script.declared.value.Value.TheVariants.{Obj}
 use Rattle.cjc_jvm_semantics.specs.Machine.{Frame, State, heap_of, holder_of, stuck_at, at_selected, on_receiver}
 use Rattle.cjc_jvm.specs.Acts.Meant.{sort_meant}
 use Rattle.cjc_jvm_step.specs.Step.Names.{selection_of}

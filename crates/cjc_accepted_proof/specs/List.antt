@@ -1,2 +1,0 @@
--- What crates above take of List.
-pub use Rattle.cjc_check_proof.specs.List.Listed as Listed

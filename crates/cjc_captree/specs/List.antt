@@ -1,0 +1,2 @@
+-- What crates above take of List.
+pub use Rattle.cjc_classes.specs.List.Listed as Listed

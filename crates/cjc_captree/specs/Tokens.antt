@@ -1,0 +1,2 @@
+-- What crates above take of Tokens.
+pub use Rattle.cjc_methods.specs.Tokens.Tokens as Tokens

@@ -1,0 +1,7 @@
+-- What crates above take of ExportFile.
+pub use Rattle.cjc_card_semantics.specs.ExportFile.ExportFile as ExportFile
+pub use Rattle.cjc_card_semantics.specs.ExportFile.Members as Members
+pub use Rattle.cjc_card_semantics.specs.ExportFile.Package as Package
+pub use Rattle.cjc_card_semantics.specs.ExportFile.Pool as Pool
+pub use Rattle.cjc_card_semantics.specs.ExportFile.Root as Root
+pub use Rattle.cjc_card_semantics.specs.ExportFile.declared as declared

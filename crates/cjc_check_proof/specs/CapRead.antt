@@ -1,0 +1,5 @@
+-- What crates above take of cjc_capread.
+pub use Rattle.cjc_capread.specs.Card as Card
+pub use Rattle.cjc_capread.specs.Decode as Decode
+pub use Rattle.cjc_capread.specs.Opcodes as Opcodes
+pub use Rattle.cjc_capread.specs.declared as declared

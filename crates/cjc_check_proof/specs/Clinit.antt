@@ -1,5 +1,0 @@
--- What crates above take of Clinit.
-pub use Rattle.cjc_components.specs.Clinit.Fields as Fields
-pub use Rattle.cjc_components.specs.Clinit.Image as Image
-pub use Rattle.cjc_components.specs.Clinit.Initialiser as Initialiser
-pub use Rattle.cjc_components.specs.Clinit.declared as declared

@@ -1,0 +1,2 @@
+-- What crates above take of Clinit.
+pub use Rattle.cjc_pool.specs.Clinit.Image as Image

@@ -1,0 +1,6 @@
+-- What crates above take of cjc_components.
+pub use Rattle.cjc_components.specs.Components as Components
+pub use Rattle.cjc_components.specs.Exports as Exports
+pub use Rattle.cjc_components.specs.Names as Names
+pub use Rattle.cjc_components.specs.Package as Package
+pub use Rattle.cjc_components.specs.Written as Written

@@ -1,2 +1,0 @@
--- What crates above take of cjc_tokens.
-pub use Rattle.cjc_tokens.specs.Members as Members

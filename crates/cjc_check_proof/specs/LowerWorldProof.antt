@@ -1,4 +1,0 @@
--- What crates above take of WorldProof.
-pub use Rattle.cjc_token_proof.specs.WorldProof.Calls as Calls
-pub use Rattle.cjc_token_proof.specs.WorldProof.Files as Files
-pub use Rattle.cjc_token_proof.specs.WorldProof.Initialisers as Initialisers

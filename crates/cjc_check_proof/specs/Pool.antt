@@ -1,2 +1,0 @@
--- What crates above take of cjc_pool.
-pub use Rattle.cjc_pool.specs.Pool as Pool

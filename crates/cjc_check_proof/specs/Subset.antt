@@ -1,2 +1,0 @@
--- What crates above take of Subset.
-pub use Rattle.cjc_vtable.specs.Subset.Types as Types

@@ -1,0 +1,7 @@
+-- What crates above take of LowerCapWrite.
+pub use Rattle.cjc_components.specs.LowerCapWrite.Files as Files
+pub use Rattle.cjc_components.specs.LowerCapWrite.Fits as Fits
+pub use Rattle.cjc_components.specs.LowerCapWrite.Method as Method
+pub use Rattle.cjc_components.specs.LowerCapWrite.Size as Size
+pub use Rattle.cjc_components.specs.LowerCapWrite.Writable as Writable
+pub use Rattle.cjc_components.specs.LowerCapWrite.declared as declared

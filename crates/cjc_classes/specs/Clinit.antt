@@ -1,0 +1,6 @@
+-- What crates above take of LowerClinit.
+pub use Rattle.cjc_components.specs.LowerClinit.Fields as Fields
+pub use Rattle.cjc_components.specs.LowerClinit.Image as Image
+pub use Rattle.cjc_components.specs.LowerClinit.Initialiser as Initialiser
+pub use Rattle.cjc_components.specs.LowerClinit.Rules as Rules
+pub use Rattle.cjc_components.specs.LowerClinit.declared as declared

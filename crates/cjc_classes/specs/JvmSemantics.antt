@@ -1,0 +1,4 @@
+-- What crates above take of LowerJvmSemantics.
+pub use Rattle.cjc_components.specs.LowerJvmSemantics.Effects as Effects
+pub use Rattle.cjc_components.specs.LowerJvmSemantics.Linked as Linked
+pub use Rattle.cjc_components.specs.LowerJvmSemantics.OnePackage as OnePackage

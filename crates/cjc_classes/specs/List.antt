@@ -1,0 +1,4 @@
+-- What crates above take of LowerList.
+pub use Rattle.cjc_components.specs.LowerList.Grammar as Grammar
+pub use Rattle.cjc_components.specs.LowerList.Listed as Listed
+pub use Rattle.cjc_components.specs.LowerList.Spelling as Spelling

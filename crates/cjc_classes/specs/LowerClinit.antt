@@ -1,3 +1,0 @@
--- What crates above take of Clinit.
-pub use Rattle.cjc_components.specs.Clinit.Fields as Fields
-pub use Rattle.cjc_components.specs.Clinit.Image as Image

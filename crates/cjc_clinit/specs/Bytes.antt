@@ -1,6 +1,0 @@
--- What crates above take of cjc_bytes.
-pub use Rattle.cjc_bytes.specs.AccessFlags as AccessFlags
-pub use Rattle.cjc_bytes.specs.Breaks as Breaks
-pub use Rattle.cjc_bytes.specs.Order as Order
-pub use Rattle.cjc_bytes.specs.Refused as Refused
-pub use Rattle.cjc_bytes.specs.declared as declared

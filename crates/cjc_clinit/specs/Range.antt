@@ -1,0 +1,2 @@
+-- What crates above take of LowerRange.
+pub use Rattle.cjc_subset.specs.LowerRange.Words as Words

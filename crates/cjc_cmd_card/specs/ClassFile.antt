@@ -1,0 +1,9 @@
+-- What crates above take of ClassFile.
+pub use Rattle.cjc_card.specs.ClassFile.ClassFile as ClassFile
+pub use Rattle.cjc_card.specs.ClassFile.CodeAttribute as CodeAttribute
+pub use Rattle.cjc_card.specs.ClassFile.Items as Items
+pub use Rattle.cjc_card.specs.ClassFile.Members as Members
+pub use Rattle.cjc_card.specs.ClassFile.Methods as Methods
+pub use Rattle.cjc_card.specs.ClassFile.Pool as Pool
+pub use Rattle.cjc_card.specs.ClassFile.PoolItem as PoolItem
+pub use Rattle.cjc_card.specs.ClassFile.declared as declared

@@ -1,0 +1,2 @@
+-- What crates above take of cjc_capread.
+pub use Rattle.cjc_capread.specs.declared as declared

@@ -1,0 +1,2 @@
+-- What crates above take of CheckRules.
+pub use Rattle.cjc_cmd_check.specs.CheckRules.Consistent as Consistent

@@ -1,0 +1,3 @@
+-- What crates above take of ClassFile.
+pub use Rattle.cjc_world.specs.ClassFile.ClassFile as ClassFile
+pub use Rattle.cjc_world.specs.ClassFile.declared as declared

@@ -1,0 +1,10 @@
+pub mod Gathers
+pub mod Parts
+pub mod Made
+pub mod Agreed
+pub mod Joined
+pub mod Answered
+pub mod OneAnswer
+pub mod Numbers
+pub mod Named
+pub mod Loading

@@ -1,0 +1,15 @@
+use Rattle.std.proofs.Common.{◌≡◌, ◌∙◌, [], subst, OnOk}
+use Rattle.std.specs.Prelude.{IfErr}
+use Rattle.cjc_group.specs.Bytes.Breaks.{IsFirstRefusal}
+use Rattle.cjc_group.specs.Rules.{breaks}
+use Rattle.cjc_cmd_link.proofs.members.test_together.Goals as goal
+
+pub returns-clause-agreed : goal.returns-clause-agreed
+returns-clause-agreed c =
+    subst (λ g. OnOk c.test_group.result (breaks g ≡ [])) (c.items-2.ensures ∙ c.in_ok-group.ensures)
+    c.test_group.ensures.unbroken
+
+pub returns-clause-refused : goal.returns-clause-refused
+returns-clause-refused c =
+    subst (λ g. IfErr c.test_group.result (IsFirstRefusal (breaks g))) (c.items-2.ensures ∙ c.in_ok-group.ensures)
+    c.test_group.ensures.refused

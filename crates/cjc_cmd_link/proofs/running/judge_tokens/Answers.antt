@@ -1,0 +1,8 @@
+use Rattle.cjc_cmd_link.proofs.Answered.{given_fault}
+use Rattle.cjc_cmd_link.specs.Runs.{report_by_token}
+use Rattle.cjc_cmd_link.proofs.running.judge_tokens.Goals as goal
+
+pub returns-in-Err : goal.returns-in-Err
+returns-in-Err c =
+    rw c.from.ensures (given_fault (λ members tree. report_by_token members tree c.args.n) c.args.name.now
+    c.args.script.now c.args.input.now c.in-Err.fault c.in-Err.ensures.refused)

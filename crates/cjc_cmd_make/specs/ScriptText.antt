@@ -1,2 +1,0 @@
--- What crates above take of ScriptText.
-pub use Rattle.cjc_cmd_card.specs.ScriptText.Printed as Printed

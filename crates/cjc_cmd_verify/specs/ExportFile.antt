@@ -1,2 +1,0 @@
--- What crates above take of ExportFile.
-pub use Rattle.cjc_verify_theorem.specs.ExportFile.declared as declared

@@ -1,3 +1,0 @@
--- What crates above take of ClassOrder.
-pub use Rattle.cjc_vtable.specs.ClassOrder.Classes as Classes
-pub use Rattle.cjc_vtable.specs.ClassOrder.Supers as Supers

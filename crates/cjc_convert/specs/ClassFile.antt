@@ -1,9 +1,0 @@
--- What crates above take of ClassFile.
-pub use Rattle.cjc_shape_proof.specs.ClassFile.ClassFile as ClassFile
-pub use Rattle.cjc_shape_proof.specs.ClassFile.CodeAttribute as CodeAttribute
-pub use Rattle.cjc_shape_proof.specs.ClassFile.Items as Items
-pub use Rattle.cjc_shape_proof.specs.ClassFile.Members as Members
-pub use Rattle.cjc_shape_proof.specs.ClassFile.Methods as Methods
-pub use Rattle.cjc_shape_proof.specs.ClassFile.Pool as Pool
-pub use Rattle.cjc_shape_proof.specs.ClassFile.PoolItem as PoolItem
-pub use Rattle.cjc_shape_proof.specs.ClassFile.declared as declared

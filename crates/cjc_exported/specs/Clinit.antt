@@ -1,2 +1,0 @@
--- What crates above take of Clinit.
-pub use Rattle.cjc_components.specs.Clinit.Image as Image

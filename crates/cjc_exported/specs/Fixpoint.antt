@@ -1,0 +1,2 @@
+-- What crates above take of Fixpoint.
+pub use Rattle.cjc_components.specs.Fixpoint.Working as Working

@@ -1,5 +1,0 @@
--- What crates above take of Bytes.
-pub use Rattle.cjc_intervals.specs.Bytes.AccessFlags as AccessFlags
-pub use Rattle.cjc_intervals.specs.Bytes.Descriptor as Descriptor
-pub use Rattle.cjc_intervals.specs.Bytes.Spots as Spots
-pub use Rattle.cjc_intervals.specs.Bytes.declared as declared

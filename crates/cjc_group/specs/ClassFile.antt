@@ -1,3 +1,0 @@
--- What crates above take of LowerClassFile.
-pub use Rattle.cjc_world.specs.LowerClassFile.ClassFile as ClassFile
-pub use Rattle.cjc_world.specs.LowerClassFile.declared as declared

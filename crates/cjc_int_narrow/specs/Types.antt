@@ -1,8 +1,0 @@
--- What crates above take of Types.
-pub use Rattle.cjc_int_proof.specs.Types.Flow as Flow
-pub use Rattle.cjc_int_proof.specs.Types.Rules as Rules
-pub use Rattle.cjc_int_proof.specs.Types.Steps as Steps
-pub use Rattle.cjc_int_proof.specs.Types.Tables as Tables
-pub use Rattle.cjc_int_proof.specs.Types.TypeLaws as TypeLaws
-pub use Rattle.cjc_int_proof.specs.Types.Types as Types
-pub use Rattle.cjc_int_proof.specs.Types.declared as declared

@@ -1,2 +1,0 @@
--- What crates above take of LowerWorld.
-pub use Rattle.cjc_types.specs.LowerWorld.Classes as Classes

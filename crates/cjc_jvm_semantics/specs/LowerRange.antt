@@ -1,0 +1,2 @@
+-- What crates above take of Range.
+pub use Rattle.cjc_code.specs.Range.Words as Words

@@ -1,8 +1,0 @@
--- What crates above take of LowerCapRead.
-pub use Rattle.cjc_jvm_semantics.specs.LowerCapRead.Card as Card
-pub use Rattle.cjc_jvm_semantics.specs.LowerCapRead.ClassRefs as ClassRefs
-pub use Rattle.cjc_jvm_semantics.specs.LowerCapRead.Decode as Decode
-pub use Rattle.cjc_jvm_semantics.specs.LowerCapRead.Decoder as Decoder
-pub use Rattle.cjc_jvm_semantics.specs.LowerCapRead.Opcodes as Opcodes
-pub use Rattle.cjc_jvm_semantics.specs.LowerCapRead.Parts as Parts
-pub use Rattle.cjc_jvm_semantics.specs.LowerCapRead.declared as declared

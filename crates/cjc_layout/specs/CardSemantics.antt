@@ -1,0 +1,3 @@
+-- What crates above take of LowerCardSemantics.
+pub use Rattle.cjc_ncode.specs.LowerCardSemantics.Bytecode as Bytecode
+pub use Rattle.cjc_ncode.specs.LowerCardSemantics.Machine as Machine

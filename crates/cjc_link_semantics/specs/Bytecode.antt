@@ -1,0 +1,2 @@
+-- What crates above take of Bytecode.
+pub use Rattle.cjc_components.specs.Bytecode.PackageCodes as PackageCodes

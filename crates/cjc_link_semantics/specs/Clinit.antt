@@ -1,0 +1,2 @@
+-- What crates above take of LowerClinit.
+pub use Rattle.cjc_components.specs.LowerClinit.Image as Image

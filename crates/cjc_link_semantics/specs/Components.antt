@@ -1,0 +1,4 @@
+-- What crates above take of cjc_components.
+pub use Rattle.cjc_components.specs.ExportFile as ExportFile
+pub use Rattle.cjc_components.specs.Package as Package
+pub use Rattle.cjc_components.specs.Paired as Paired

@@ -1,0 +1,4 @@
+-- What crates above take of LowerJvmSemantics.
+pub use Rattle.cjc_components.specs.LowerJvmSemantics.Group as Group
+pub use Rattle.cjc_components.specs.LowerJvmSemantics.Machine as Machine
+pub use Rattle.cjc_components.specs.LowerJvmSemantics.OnePackage as OnePackage

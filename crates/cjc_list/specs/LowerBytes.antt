@@ -1,8 +1,0 @@
--- What crates above take of cjc_bytes.
-pub use Rattle.cjc_bytes.specs.Descriptor as Descriptor
-pub use Rattle.cjc_bytes.specs.Found as Found
-pub use Rattle.cjc_bytes.specs.Refused as Refused
-pub use Rattle.cjc_bytes.specs.Spots as Spots
-pub use Rattle.cjc_bytes.specs.Text as Text
-pub use Rattle.cjc_bytes.specs.TextGrammar as TextGrammar
-pub use Rattle.cjc_bytes.specs.declared as declared

@@ -1,0 +1,4 @@
+-- What crates above take of Bytecode.
+pub use Rattle.cjc_components.specs.Bytecode.Decoded as Decoded
+pub use Rattle.cjc_components.specs.Bytecode.PackageCodes as PackageCodes
+pub use Rattle.cjc_components.specs.Bytecode.declared as declared

@@ -1,5 +1,0 @@
--- What crates above take of cjc_components.
-pub use Rattle.cjc_components.specs.ExportFile as ExportFile
-pub use Rattle.cjc_components.specs.Limits as Limits
-pub use Rattle.cjc_components.specs.Package as Package
-pub use Rattle.cjc_components.specs.Written as Written

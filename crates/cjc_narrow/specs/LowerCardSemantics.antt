@@ -1,0 +1,2 @@
+-- What crates above take of LowerCardSemantics.
+pub use Rattle.cjc_ncode.specs.LowerCardSemantics.Machine as Machine

@@ -1,3 +1,0 @@
--- What crates above take of cjc_range.
-pub use Rattle.cjc_range.specs.Span as Span
-pub use Rattle.cjc_range.specs.Words as Words

@@ -1,0 +1,3 @@
+-- What crates above take of cjc_script.
+pub use Rattle.cjc_script.specs.Sorts as Sorts
+pub use Rattle.cjc_script.specs.declared as declared

@@ -1,0 +1,3 @@
+-- What crates above take of Script.
+pub use Rattle.cjc_card_semantics.specs.Script.Sorts as Sorts
+pub use Rattle.cjc_card_semantics.specs.Script.declared as declared

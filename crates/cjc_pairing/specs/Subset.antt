@@ -1,0 +1,2 @@
+-- What crates above take of Subset.
+pub use Rattle.cjc_classes.specs.Subset.Checks as Checks

@@ -1,0 +1,4 @@
+-- What crates above take of LowerClinit.
+pub use Rattle.cjc_components.specs.LowerClinit.Fields as Fields
+pub use Rattle.cjc_components.specs.LowerClinit.Image as Image
+pub use Rattle.cjc_components.specs.LowerClinit.Rules as Rules

@@ -1,0 +1,2 @@
+-- What crates above take of LowerList.
+pub use Rattle.cjc_components.specs.LowerList.Listed as Listed

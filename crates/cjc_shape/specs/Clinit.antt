@@ -1,3 +1,0 @@
--- What crates above take of Clinit.
-pub use Rattle.cjc_judge.specs.Clinit.Image as Image
-pub use Rattle.cjc_judge.specs.Clinit.Rules as Rules

@@ -1,8 +1,0 @@
--- What crates above take of cjc_judge.
-pub use Rattle.cjc_judge.specs.Codes as Codes
-pub use Rattle.cjc_judge.specs.Judged as Judged
-pub use Rattle.cjc_judge.specs.Rules as Rules
-pub use Rattle.cjc_judge.specs.Spelt as Spelt
-pub use Rattle.cjc_judge.specs.Trees as Trees
-pub use Rattle.cjc_judge.specs.Types as Types
-pub use Rattle.cjc_judge.specs.declared as declared

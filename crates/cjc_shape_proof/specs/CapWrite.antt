@@ -1,5 +1,0 @@
--- What crates above take of CapWrite.
-pub use Rattle.cjc_components.specs.CapWrite.Files as Files
-pub use Rattle.cjc_components.specs.CapWrite.Method as Method
-pub use Rattle.cjc_components.specs.CapWrite.Writable as Writable
-pub use Rattle.cjc_components.specs.CapWrite.declared as declared

@@ -1,9 +1,0 @@
--- What crates above take of ClassFile.
-pub use Rattle.cjc_tokens.specs.ClassFile.ClassFile as ClassFile
-pub use Rattle.cjc_tokens.specs.ClassFile.CodeAttribute as CodeAttribute
-pub use Rattle.cjc_tokens.specs.ClassFile.Items as Items
-pub use Rattle.cjc_tokens.specs.ClassFile.Members as Members
-pub use Rattle.cjc_tokens.specs.ClassFile.Methods as Methods
-pub use Rattle.cjc_tokens.specs.ClassFile.Pool as Pool
-pub use Rattle.cjc_tokens.specs.ClassFile.PoolItem as PoolItem
-pub use Rattle.cjc_tokens.specs.ClassFile.declared as declared

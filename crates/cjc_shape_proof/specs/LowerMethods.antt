@@ -1,0 +1,2 @@
+-- What crates above take of LowerMethods.
+pub use Rattle.cjc_shape.specs.LowerMethods.Ready as Ready

@@ -1,0 +1,7 @@
+-- What crates above take of cjc_bytes.
+pub use Rattle.cjc_bytes.specs.Breaks as Breaks
+pub use Rattle.cjc_bytes.specs.Format as Format
+pub use Rattle.cjc_bytes.specs.Order as Order
+pub use Rattle.cjc_bytes.specs.Refused as Refused
+pub use Rattle.cjc_bytes.specs.Text as Text
+pub use Rattle.cjc_bytes.specs.declared as declared

@@ -1,5 +1,0 @@
--- What crates above take of cjc_code.
-pub use Rattle.cjc_code.specs.Jvm as Jvm
-pub use Rattle.cjc_code.specs.PackageCodes as PackageCodes
-pub use Rattle.cjc_code.specs.ReadLaws as ReadLaws
-pub use Rattle.cjc_code.specs.declared as declared

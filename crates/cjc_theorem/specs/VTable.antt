@@ -1,0 +1,4 @@
+-- What crates above take of cjc_vtable.
+pub use Rattle.cjc_vtable.specs.Kept as Kept
+pub use Rattle.cjc_vtable.specs.Laws as Laws
+pub use Rattle.cjc_vtable.specs.Meant as Meant

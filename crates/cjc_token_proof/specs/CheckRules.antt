@@ -1,0 +1,3 @@
+-- What crates above take of LowerCheckRules.
+pub use Rattle.cjc_components.specs.LowerCheckRules.Complete as Complete
+pub use Rattle.cjc_components.specs.LowerCheckRules.Consistent as Consistent

@@ -1,0 +1,2 @@
+-- What crates above take of ExportFile.
+pub use Rattle.cjc_world.specs.ExportFile.declared as declared

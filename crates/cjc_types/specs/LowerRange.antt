@@ -1,2 +1,0 @@
--- What crates above take of LowerRange.
-pub use Rattle.cjc_code.specs.LowerRange.Words as Words

@@ -1,2 +1,0 @@
--- What crates above take of CapWrite.
-pub use Rattle.cjc_components.specs.CapWrite.Fits as Fits

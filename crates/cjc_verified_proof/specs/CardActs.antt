@@ -1,2 +1,0 @@
--- What crates above take of cjc_card_acts.
-pub use Rattle.cjc_card_acts.specs.CardTypes as CardTypes

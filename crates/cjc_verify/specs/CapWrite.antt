@@ -1,0 +1,2 @@
+-- What crates above take of CapWrite.
+pub use Rattle.cjc_classes.specs.CapWrite.Fits as Fits

@@ -1,2 +1,0 @@
--- What crates above take of Check.
-pub use Rattle.cjc_methods.specs.Check.Jumps as Jumps

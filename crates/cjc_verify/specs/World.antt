@@ -1,7 +1,0 @@
--- What crates above take of cjc_world.
-pub use Rattle.cjc_world.specs.Classes as Classes
-pub use Rattle.cjc_world.specs.Files as Files
-pub use Rattle.cjc_world.specs.Lookup as Lookup
-pub use Rattle.cjc_world.specs.Order as Order
-pub use Rattle.cjc_world.specs.Subtype as Subtype
-pub use Rattle.cjc_world.specs.declared as declared

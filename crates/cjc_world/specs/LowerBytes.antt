@@ -1,4 +1,0 @@
--- What crates above take of cjc_bytes.
-pub use Rattle.cjc_bytes.specs.AccessFlags as AccessFlags
-pub use Rattle.cjc_bytes.specs.Order as Order
-pub use Rattle.cjc_bytes.specs.declared as declared

@@ -1,0 +1,7 @@
+-- What crates above take of Subset.
+pub use Rattle.cjc_clinit.specs.Subset.Checks as Checks
+pub use Rattle.cjc_clinit.specs.Subset.Flags as Flags
+pub use Rattle.cjc_clinit.specs.Subset.Members as Members
+pub use Rattle.cjc_clinit.specs.Subset.Overriding as Overriding
+pub use Rattle.cjc_clinit.specs.Subset.Places as Places
+pub use Rattle.cjc_clinit.specs.Subset.Types as Types

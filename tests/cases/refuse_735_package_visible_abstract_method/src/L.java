@@ -1,0 +1,8 @@
+package lib;
+
+public abstract class L {
+    public L() {
+    }
+
+    abstract short v();
+}
