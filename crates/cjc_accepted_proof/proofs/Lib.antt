@@ -1,4 +1,5 @@
 pub mod ArraysLaws
+pub mod ArrayTypesLaws
 pub mod NamesLaws
 pub mod OffsetsLaws
 pub mod InfosLaws

@@ -11,5 +11,6 @@ pub mod Blocks
 pub mod Methods
 -- Definitions of lower crates, for those above.
 pub mod CapWrite
+pub mod Subset
 pub mod CardActs
 pub mod NarrowProof

@@ -14,6 +14,7 @@ pub mod arrays;
 pub mod blocks;
 pub mod carded;
 pub mod described;
+pub mod elements;
 pub mod emptied;
 pub mod frames;
 pub mod infos;

@@ -23,7 +23,7 @@ use Rattle.cjc_verified_proof.specs.Bytecode.declared.insn.JOp.TheVariants as jo
 use Rattle.cjc_verified_proof.specs.Bytecode.declared.method_code.MethodCode.{MethodCode}
 use Rattle.cjc_verified_proof.specs.Components.Class.{fields_in, fields_of}
 use Rattle.cjc_verified_proof.specs.Components.Descriptor.{method_in}
-use Rattle.cjc_verified_proof.specs.Components.Package.{Package, pool, world}
+use Rattle.cjc_verified_proof.specs.Components.Package.{Package, world}
 use Rattle.cjc_verified_proof.specs.Components.Types.{desc_of_key}
 use Rattle.cjc_theorem.proofs.NarrowProofInstructions.{op_fit}
 use Rattle.cjc_theorem.proofs.NarrowProofOwn.{class_by_name}
@@ -37,15 +37,15 @@ use Rattle.cjc_theorem.proofs.ShapeProofWorlds.{own_solid}
 use Rattle.cjc_theorem.specs.LowerJudge.Rules.{settings_of}
 use Rattle.cjc_theorem.specs.LowerJudge.declared.judged.Judged.{Judged}
 use Rattle.cjc_theorem.specs.ShapeProof.Written.Converted.{IsConverted}
-use Rattle.cjc_theorem.specs.Subset.Checks.{check_breaks, class_breaks, code_breaks, field_breaks, has_int}
-use Rattle.cjc_theorem.specs.Subset.Checks.{has_unsupported}
-use Rattle.cjc_theorem.specs.Subset.Checks.{list_breaks, method_breaks, own_breaks}
-use Rattle.cjc_theorem.specs.Subset.Flags.{is_unfit_class, is_unfit_field, is_unfit_method}
-use Rattle.cjc_theorem.specs.Subset.Limits.{has_deep_stack, has_many_cells, has_many_interfaces, has_many_locals}
-use Rattle.cjc_theorem.specs.Subset.Overriding.{gets_hidden, overriding_breaks}
-use Rattle.cjc_theorem.specs.Subset.Places.{at_class, at_field, at_method}
-use Rattle.cjc_theorem.specs.Subset.Types.{is_int_desc, is_unsupported_desc, is_unsupported_name}
-use Rattle.cjc_theorem.specs.Subset.Types.{names_unsupported}
+use Rattle.cjc_accepted_proof.specs.Subset.Checks.{check_breaks, class_breaks, code_breaks, field_breaks, has_int}
+use Rattle.cjc_accepted_proof.specs.Subset.Checks.{has_unsupported}
+use Rattle.cjc_accepted_proof.specs.Subset.Checks.{list_breaks, method_breaks, own_breaks}
+use Rattle.cjc_accepted_proof.specs.Subset.Flags.{is_unfit_class, is_unfit_field, is_unfit_method}
+use Rattle.cjc_accepted_proof.specs.Subset.Limits.{has_deep_stack, has_many_cells, has_many_interfaces, has_many_locals}
+use Rattle.cjc_accepted_proof.specs.Subset.Overriding.{gets_hidden, overriding_breaks}
+use Rattle.cjc_accepted_proof.specs.Subset.Places.{at_class, at_field, at_method}
+use Rattle.cjc_accepted_proof.specs.Subset.Types.{is_int_desc, is_unsupported_desc, is_unsupported_name}
+use Rattle.cjc_accepted_proof.specs.Subset.Types.{names_unsupported}
 use Rattle.cjc_theorem.proofs.AlikeLaws.MetLaws.KeySources as sources
 use Rattle.cjc_theorem.proofs.AlikeLaws.MetLaws.KeySources.{IsMet, called, key_met}
 use Rattle.cjc_theorem.proofs.AlikeLaws.MetLaws.LaidOut.{laid_out}

@@ -98,6 +98,7 @@ use Rattle.cjc_accepted_proof.specs.Accepted.{HeadersFit}
 use Rattle.cjc_accepted_proof.specs.Carded.{HasCardTypes, IsOnCard}
 use Rattle.cjc_accepted_proof.specs.Written.{written_pair}
 use Rattle.cjc_accepted_proof.proofs.DescribedLaws.{type_there}
+use Rattle.cjc_accepted_theorem.specs.Begins.{Begins}
 use Rattle.cjc_accepted_theorem.proofs.MethodsLaws.{IsMethodOf, IsSaid, all_said, method_from, of_file, of_interfaces}
 
 -- ---- lists
@@ -175,18 +176,16 @@ module _ (list : ListTree) (files : List (List ℕ)) (judged : Judged) (p : Pack
   abbrev sound : IsSound list.name p.files
   sound = files_sound list files judged p is
 
+  -- each method of each class of the package that is no interface begins as it should
+  abbrev pub ClassesBegin : Type 0
+  ClassesBegin = (k : ℕ) (d : Class) → slice_get (class_order w) k ≡ Some d → is_interface d.flags ≡ false
+      → (j : ℕ) (f : Found) → slice_get (methods_of_class w d) j ≡ Some f → Begins p d f
+
   -- what begins where a method that its class got stands
   abbrev pub AddedBegin : Type 0
   AddedBegin = (f : Found) → f.imported ≡ false → is_in_method w f ≡ true → method_at p.files f ≡ None
       → (s : Start Code) × (start_of (loaded p) 0 (method_offset p f) ≡ Some s) × (s.is_abstract ≡ true)
       × (s.nargs ≡ added_words w f (class_at w f.imported f.class))
-
-  -- how a method of a class begins
-  record Begun (d : Class) (f : Found) : Type 0 where
-    start : Start Code
-    starts : start_of (loaded p) 0 (method_offset p f) ≡ Some start
-    words : start.nargs ≡ (let m = method_in w d f.member in argument_words m.flags m.desc)
-    bare : start.is_abstract ≡ true → (let m = method_in w d f.member in is_abstract m.flags ≡ true)
 
   id_of : (t : ClassTree) (x : MethodTree) (o : Option CodeTree) → (let k = method_by t x o in k.id) ≡ record {
     class = t.name;
@@ -237,7 +236,7 @@ module _ (list : ListTree) (files : List (List ℕ)) (judged : Judged) (p : Pack
     own_begun : (n : ℕ) (t : ClassTree) → (let v = p.files in slice_get v.classes n ≡ Some t) → (i : ℕ) (m : Member)
         → (let c = declared n t in slice_get c.methods i ≡ Some m) → (f : Found) → (let c = declared n t in f
         ≡ member_at c (length c.fields + i)) → is_in_method w f ≡ true → method_in w (declared n t) f.member ≡ m
-        → Begun (declared n t) f
+        → Begins p (declared n t) f
     own_begun n t e i m there f is_f inside same =
         let c = declared n t in
         let r = mapped_at method_of_class t.methods i m there in
@@ -270,7 +269,7 @@ module _ (list : ListTree) (files : List (List ℕ)) (judged : Judged) (p : Pack
     got_begun : (n : ℕ) (t : ClassTree) → (let v = p.files in slice_get v.classes n ≡ Some t) → (i : ℕ) (m : Member)
         → (f : Found) → (let c = declared n t in f ≡ member_at c (length c.fields + (length c.methods + i)))
         → is_in_method w f ≡ true → class_at w false n ≡ Some (declared n t)
-        → method_in w (declared n t) f.member ≡ as_added m → Begun (declared n t) f
+        → method_in w (declared n t) f.member ≡ as_added m → Begins p (declared n t) f
     got_begun n t e i m f is_f inside numbered same =
         let c = declared n t in
         let fields : length c.fields ≡ length t.fields = length-map t.fields field_of_class in
@@ -293,10 +292,10 @@ module _ (list : ListTree) (files : List (List ℕ)) (judged : Judged) (p : Pack
         }
 
     -- a method of a class of the package
-    class_begun : (d : Class) → Has d (class_order w) → is_interface d.flags ≡ false → (j : ℕ) (f : Found)
-        → slice_get (methods_of_class w d) j ≡ Some f → Begun d f
+    pub class_begun : ClassesBegin
     unfolding method_order
-    class_begun d there plain j f e =
+    class_begun k d here plain j f e =
+        let there = get-has d (class_order w) k here in
         let o = order_in list.name p.files sound d there in
         let t = order_filed p.files d there in
         let solid = own_solid list files judged p is in
@@ -309,18 +308,19 @@ module _ (list : ListTree) (files : List (List ℕ)) (judged : Judged) (p : Pack
       where
         by : (d : Class) (t : ClassTree) → (let v = p.files in slice_get v.classes d.number ≡ Some t) → d
             ≡ declared d.number t → d.is_imported ≡ false → class_at w false d.number ≡ Some d → (f.imported ≡ false
-            → is_in_method w f ≡ true) → IsMethodOf w d f → Begun d f
+            → is_in_method w f ≡ true) → IsMethodOf w d f → Begins p d f
         by d t here filed own numbered inside (of_file i m is_m is_f same no_init) =
             let in_it = inside (ap (λ (g : Found). g.imported) is_f ∙ own) in
-            subst (λ (c : Class). Begun c f) (sym filed) (own_begun d.number t here i m (sym (ap (λ (c : Class).
+            subst (λ (c : Class). Begins p c f) (sym filed) (own_begun d.number t here i m (sym (ap (λ (c : Class).
             slice_get c.methods i) filed) ∙ is_m) f (is_f ∙ ap (λ (c : Class). member_at c (length c.fields + i)) filed)
             in_it (sym (ap (λ (c : Class). method_in w c f.member) filed) ∙ same))
         by d t here filed own numbered inside (of_interfaces i m is_m is_f same) =
             let in_it = inside (ap (λ (g : Found). g.imported) is_f ∙ own) in
-            subst (λ (c : Class). Begun c f) (sym filed) (got_begun d.number t here i m f (is_f ∙ ap (λ (c : Class).
+            subst (λ (c : Class). Begins p c f) (sym filed) (got_begun d.number t here i m f (is_f ∙ ap (λ (c : Class).
             member_at c (length c.fields + (length c.methods + i))) filed) in_it (numbered ∙ ap Some filed)
             (sym (ap (λ (c : Class). method_in w c f.member) filed) ∙ same))
 
+  module _ (class_begun : ClassesBegin) where
     -- ---- methods of Descriptor
 
     -- each is that of its class
@@ -493,8 +493,7 @@ module _ (list : ListTree) (files : List (List ℕ)) (judged : Judged) (p : Pack
               let m = d.method in
               let parts = two (not (is_interface k.flags)) (m.offset == off) test in
               let plain = not_true (is_interface k.flags) parts.0 in
-              let listed = get-has d.class (class_order w) said.0 said.1 in
-              let b = class_begun d.class listed plain said.2 d.member said.3 in
+              let b = class_begun said.0 d.class said.1 plain said.2 d.member said.3 in
               let at : method_offset p d.member ≡ off = sym said.4 ∙ number_same m.offset off parts.1 in
               let same : b.start ≡ s = same_some (sym b.starts ∙ ap (start_of (loaded p) 0) at ∙ e) in
               ap not (b.bare (ap (λ (x : Start Code). x.is_abstract) same ∙ a))
@@ -520,7 +519,8 @@ module _ (list : ListTree) (files : List (List ℕ)) (judged : Judged) (p : Pack
           let listed = order_has list.name p.files sound d kind.0 kind.1 in
           let method = method_from w d of.place_in f of.is_found in
           let named = own_name list.name p.files sound d kind.0 in
-          let begun = class_begun d listed plain of.place_in f of.is_found in
+          let ordered = has-get d (class_order w) listed in
+          let begun = class_begun ordered.0 d ordered.1 plain of.place_in f of.is_found in
           let begins_here = body_starts (has_applets p) p.files p.image c whole jump k b e in
           let offset : md.offset ≡ method_offset p f = ap (λ (x : MethodDescriptor). x.offset) (sym of.same) in
           let same : start_at 0 md.offset b.header md ≡ begun.start = same_some (sym begins_here ∙ ap (start_of

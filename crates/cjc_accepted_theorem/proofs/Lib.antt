@@ -2,8 +2,15 @@ mod CardTypes
 mod CellsLaws
 mod EntriesLaws
 mod HeadersLaws
-mod LeftLaws
+mod NamedLaws
+mod PoolLaws
 mod MethodsLaws
 mod OwnMethodsLaws
 mod RefsLaws
 mod SpeltBackLaws
+mod VirtualsLaws
+mod FieldsLaws
+mod ConcreteLaws
+mod OutwardLaws
+mod AbstractLaws
+mod NoAbstractLaws

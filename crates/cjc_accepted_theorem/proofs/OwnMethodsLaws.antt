@@ -1,9 +1,9 @@
 -- Entries of the constant pool name methods of their keys' descriptors: those of static methods, constructors and
 -- private methods of the package.
-use Rattle.std.proofs.Common.{◌≡◌, ⊎_elim, ℕ, zero, suc, ◌+◌, ◌<◌, ◌≤◌, ◌==◌, refl, sym, ap, subst, ◌∙◌, arith, Bool}
-use Rattle.std.proofs.Common.{true, false, List, [], ◌∷◌, ◌++◌, length, map}
-use Rattle.std.specs.Prelude.{◌&&◌, ◌||◌, not, cond, Option, Some, None, option_map, slice_get}
-use Rattle.std.specs.List.{AllByRecursion, find}
+use Rattle.std.proofs.Common.{◌≡◌, ⊎_elim, ℕ, zero, suc, ◌+◌, ◌==◌, refl, sym, ap, ◌∙◌, arith, Bool}
+use Rattle.std.proofs.Common.{true, false, List, [], ◌∷◌, length, map}
+use Rattle.std.specs.Prelude.{◌&&◌, not, Some, option_map, slice_get}
+use Rattle.std.specs.List.{find}
 use Rattle.cjc_verified_proof.specs.Bytes.AccessFlags.{is_interface}
 use Rattle.cjc_verified_proof.specs.Bytes.declared.fault.MemberId.{MemberId}
 use Rattle.cjc_verified_proof.proofs.BytesBools.{not_true}

@@ -1,6 +1,6 @@
 -- Class_refs that are written for a package are read back from the nibbles of types as the classes that they name, so a
 -- subtype by name is one by token.
-use Rattle.std.proofs.Common.{◌≡◌, ◌∙◌, ℕ, List}
+use Rattle.std.proofs.Common.{◌∙◌, ℕ, List}
 use Rattle.cjc_verified_proof.specs.CapRead.declared.tree.ClassRef.{ClassRef}
 use Rattle.cjc_verified_proof.specs.CapRead.declared.tree.ClassRef.TheVariants.{Inside, Outside}
 use Rattle.cjc_accepted_proof.proofs.CheckProofRefs.{class_fits}

@@ -1,1 +1,2 @@
-pub mod Left
+pub mod NamesDesc
+pub mod Begins

@@ -1,5 +1,4 @@
-//! Entries of the constant pool: each names a member of its key's descriptor. Those of static fields, and of the static
-//! methods, constructors and private methods of the package, are shown to; the others are a premise.
+//! Entries of the constant pool: each names a member of its key's descriptor.
 ghost use Rattle.std.specs.Prelude.{◌≡◌, ℕ, false, List, Some};
 ghost use Rattle.cjc_verified_proof.specs.Bytes.AccessFlags.{is_interface};
 ghost use Rattle.cjc_verified_proof.specs.Bytes.declared.fault.MemberId.{MemberId};
@@ -21,13 +20,18 @@ ghost use Rattle.cjc_verified_proof.specs.World.Classes.{Class, class_named};
 ghost use Rattle.cjc_verified_proof.specs.World.Order.{class_order};
 ghost use Rattle.cjc_accepted_proof.specs.Carded.{EntriesAreNamed};
 ghost use Rattle.cjc_accepted_proof.specs.Written.{written_pair};
-ghost use Rattle.cjc_accepted_theorem.specs.Left.{OthersAreNamed};
 
-use cjc_theorem::alike::calls_have_opcodes;
-use cjc_theorem::shape_proof::written::{
-    converted_files_are_sound, converted_methods_are_consistent, static_images_fit,
+use cjc_theorem::alike::{
+    calls_have_opcodes, export_files_are_kept, super_calls_are_named, virtual_calls_are_named,
 };
+use cjc_theorem::shape_proof::written::{
+    converted_classes_keep_rules, converted_files_are_sound, converted_methods_are_consistent,
+    static_images_fit,
+};
+use cjc_theorem::vtable::slot_laws::tokens_mean_methods;
+use cjc_theorem::vtable::{dispatch_laws, token_laws};
 use cjc_verified_proof::token_proof::tables::static_fields_are_told;
+use cjc_verified_proof::world::lookup_laws;
 
 /// The entry of a static field of the package names the field of its descriptor: no other has a cell where its own
 /// stands.
@@ -50,15 +54,24 @@ pub fn own_methods_are_named()
     converted_methods_are_consistent();
 }
 
-/// So each entry of a converted package's pool names a member of its key's descriptor, where those of instance fields,
-/// of virtual methods, of a superclass's methods and of imported static methods, constructors and private methods do.
+/// So each entry of a converted package's pool names a member of its key's descriptor: a field, a static method, a
+/// constructor or a private method by the class that declares it, a virtual method and one of a superclass by a token
+/// that means one of its descriptor.
 pub fn converted_packages_have_named_entries()
     ensures { (list : ListTree) (files : List (List ℕ)) (judged : Judged) (p : Package)
-        → IsConverted list files judged p → OthersAreNamed p → EntriesAreNamed p }
+        → IsConverted list files judged p → EntriesAreNamed p }
 {
     calls_have_opcodes();
+    converted_classes_keep_rules();
     converted_files_are_sound();
     converted_methods_are_consistent();
+    dispatch_laws();
+    export_files_are_kept();
+    lookup_laws();
     static_fields_are_told();
     static_images_fit();
+    super_calls_are_named();
+    token_laws();
+    tokens_mean_methods();
+    virtual_calls_are_named();
 }

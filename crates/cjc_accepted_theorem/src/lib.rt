@@ -3,6 +3,7 @@
 //! alone; nothing here runs.
 #![tactic(auto)]
 
+pub mod abstracts;
 pub mod carded;
 pub mod converted;
 pub mod entries;

@@ -7,6 +7,11 @@ pub mod list {
     pub use cjc_classes::list::List;
 }
 
+/// What crates above take of bytecode.
+pub mod bytecode {
+    pub use cjc_classes::bytecode::jvm;
+}
+
 /// What crates above take of export_file.
 pub mod export_file {
     pub use cjc_classes::export_file::write;

@@ -33,6 +33,7 @@ pub use Rattle.cjc_token_proof.proofs.TablesLaws.Groups as TokenProofGroups
 pub use Rattle.cjc_token_proof.proofs.TablesLaws.Lists as TokenProofLists
 pub use Rattle.cjc_token_proof.proofs.TablesLaws.Order as TokenProofOrder
 pub use Rattle.cjc_token_proof.proofs.TablesLaws.Rooted as TokenProofRooted
+pub use Rattle.cjc_token_proof.proofs.WrittenSends.Operations as TokenProofWrittenSendsOperations
 pub use Rattle.cjc_narrow_proof.proofs.LawsLaws.WordTypes as NarrowProofWordTypes
 pub use Rattle.cjc_narrow_proof.proofs.SelectedLaws.Cuts as NarrowProofCuts
 pub use Rattle.cjc_narrow_proof.proofs.SelectedLaws.Numbers as NarrowProofNumbers

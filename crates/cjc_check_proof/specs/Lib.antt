@@ -6,6 +6,7 @@ pub mod Consistent
 pub mod Made
 pub mod Limits
 -- Definitions of lower crates, for those above.
+pub mod LowerExportFile
 pub mod Fixpoint
 pub mod LowerList
 pub mod CapRead

@@ -21,6 +21,11 @@ pub mod classfile {
     pub use cjc_world::classfile::{ClassTree, FieldTree, MethodTree};
 }
 
+/// What crates above take of bytecode.
+pub mod bytecode {
+    pub use cjc_components::bytecode::jvm;
+}
+
 /// What crates above take of export_file.
 pub mod export_file {
     pub use cjc_world::export_file::write;

@@ -280,7 +280,7 @@ all_fit p P one (suc n) at xs bytes ok h =
       all_fit p P one n _ ys.x ys.front ys.fronts ys.one,
     )
 
-length-repeated : {A : Type 0} (p : Format A) (n at : ℕ) (xs : List A) (bytes : List ℕ) → InBytes bytes
+pub length-repeated : {A : Type 0} (p : Format A) (n at : ℕ) (xs : List A) (bytes : List ℕ) → InBytes bytes
     → Spells (repeated n p) at xs bytes → length xs ≡ n
 unfolding repeated
 length-repeated p zero at xs bytes ok h = ap length (sym (given _ _ _ _ h).0)

@@ -16,7 +16,7 @@ pub mod shelf {
 
 /// What crates above take of bytecode.
 pub mod bytecode {
-    pub use cjc_theorem::bytecode::jvm;
+    pub use cjc_convert::bytecode::jvm;
 }
 
 /// What crates above take of script.

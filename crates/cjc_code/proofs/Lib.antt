@@ -14,4 +14,3 @@ pub use Rattle.cjc_bytes.proofs.Lists as BytesLists
 pub use Rattle.cjc_bytes.proofs.Numbers as BytesNumbers
 pub use Rattle.cjc_bytes.proofs.Options as BytesOptions
 pub use Rattle.cjc_range.proofs.WordsLaws.Words as RangeWords
-pub use Rattle.cjc_classfile.proofs.Fitting as ClassFileFitting

@@ -2,7 +2,6 @@
 pub use Rattle.cjc_classfile.specs.ClassFile as ClassFile
 pub use Rattle.cjc_classfile.specs.Code as Code
 pub use Rattle.cjc_classfile.specs.CodeAttribute as CodeAttribute
-pub use Rattle.cjc_classfile.specs.Fits as Fits
 pub use Rattle.cjc_classfile.specs.Items as Items
 pub use Rattle.cjc_classfile.specs.Members as Members
 pub use Rattle.cjc_classfile.specs.Methods as Methods

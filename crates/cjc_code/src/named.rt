@@ -271,6 +271,13 @@ fn named(alloc: Global, pool: &[PoolItem<'_>], insn: &Raw) -> Result<JInsn, Stop
     })
 }
 
+/// An empty list with memory for so many instructions, and no more: those of all methods are kept.
+fn room_for(alloc: Global, count: usize) -> Result<Row<JInsn>, NoMemory>
+    ensures { IfOk result (λ all. all ≡ []) }
+{
+    Ok(Row::of(Vec::with_capacity(alloc, count)?))
+}
+
 /// All instructions, or the place of the first that breaks rule 303.
 #[tactic(auto, using(cjc_bytes::proofs::Loops::each_next, cjc_bytes::proofs::Loops::each_breaks, cjc_bytes::proofs::Loops::each_ends, cjc_bytes::proofs::Loops::after_none), unfolding(crate::specs::Named::all_named))]
 pub(crate) fn all_named(
@@ -280,7 +287,7 @@ pub(crate) fn all_named(
 ) -> Result<Row<JInsn>, Stop>
     ensures { Finds (λ is. is) (all_named pool.now insns.now) result }
 {
-    let mut all = Row::new(alloc);
+    let mut all = room_for(alloc, insns.len())?;
     for insn in insns {
         all.push(named(alloc, pool, insn)?)?;
     }

@@ -15,7 +15,7 @@ ghost use Rattle.cjc_code.specs.ReadLaws.Members.{AreWords, IsReadClass};
 
 /// Each instruction that a method was decoded to has an opcode of its kind, and numbers of so many bits: one
 /// that is pushed has 32, one that is added to a local 16, and the number of a newarray's type is one of 4 to
-/// 11.
+/// 11. The matches of a switch have 32 bits and ascend, and a tableswitch has one at least.
 pub fn decoded_instructions_fit()
     ensures { (class : ClassTree) (method : MethodTree) (tree : CodeTree) (insns : List JInsn)
         → IsDecoded class method tree insns → AreWords class.pool → AllByRecursion (λ b. b < 256) tree.bytes

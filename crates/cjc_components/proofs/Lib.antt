@@ -6,6 +6,7 @@ pub use Rattle.cjc_capwrite.proofs.Lengths as CapWriteLengths
 pub use Rattle.cjc_vtable.proofs.ClassOrderDeclared as ClassOrderDeclared
 pub use Rattle.cjc_vtable.proofs.ClassOrderStanding as ClassOrderStanding
 pub use Rattle.cjc_vtable.proofs.ClassOrderSets as ClassOrderSets
+pub use Rattle.cjc_vtable.proofs.SubsetCallees as SubsetCallees
 pub use Rattle.cjc_vtable.proofs.TokensFacts as TokensFacts
 pub use Rattle.cjc_vtable.proofs.TokensMeans as TokensMeans
 pub use Rattle.cjc_vtable.proofs.TokensSums as TokensSums

@@ -10,6 +10,11 @@ pub mod list {
     pub use cjc_list::List;
 }
 
+/// What crates above take of bytecode.
+pub mod bytecode {
+    pub use cjc_vtable::bytecode::jvm;
+}
+
 /// What crates above take of script.
 pub mod script {
     pub use cjc_narrow::script::{Note, Report, Script, Value};
@@ -38,7 +43,7 @@ pub mod class_order {
 
 /// What crates above take of subset.
 pub mod subset {
-    pub use cjc_vtable::subset::is_int_desc;
+    pub use cjc_vtable::subset::{any_works_on_int, is_int_desc};
 }
 
 /// What crates above take of tokens.

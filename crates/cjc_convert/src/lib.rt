@@ -9,6 +9,11 @@ pub mod list {
     pub use cjc_captree::list::List;
 }
 
+/// What crates above take of bytecode.
+pub mod bytecode {
+    pub use cjc_captree::bytecode::jvm;
+}
+
 /// What crates above take of script.
 pub mod script {
     pub use cjc_captree::script::{Note, Report, Value};

@@ -1,15 +1,15 @@
 //! Packages made by hand as class files and as components, and their runs: by name, by token and by label. Nothing here
 //! runs in the product; it shows on examples that the definitions of the three machines say the same.
 ghost use Rattle.std.specs.Prelude.{◌≡◌, codes, pos, negsuc, replicate, [], ◌∷◌, Some, None};
-ghost use Rattle.cjc_card_semantics.specs.Script.declared.value.Value.TheVariants.{Num, Obj};
-ghost use Rattle.cjc_card_semantics.specs.Script.declared.script.Act.TheVariants as acts;
-ghost use Rattle.cjc_card_semantics.specs.Script.declared.script.Reply.TheVariants.{Give};
-ghost use Rattle.cjc_card_semantics.specs.Script.declared.report.Note.TheVariants.{Event, Result, Thrown};
-ghost use Rattle.cjc_card_semantics.specs.Script.declared.report.Outcome.TheVariants.{Done, Running, Waiting, Unfit};
-ghost use Rattle.cjc_card_semantics.specs.Script.declared.report.Thing.TheVariants as things;
+ghost use Rattle.cjc_components.specs.LowerScript.declared.value.Value.TheVariants.{Num, Obj};
+ghost use Rattle.cjc_components.specs.LowerScript.declared.script.Act.TheVariants as acts;
+ghost use Rattle.cjc_components.specs.LowerScript.declared.script.Reply.TheVariants.{Give};
+ghost use Rattle.cjc_components.specs.LowerScript.declared.report.Note.TheVariants.{Event, Result, Thrown};
+ghost use Rattle.cjc_components.specs.LowerScript.declared.report.Outcome.TheVariants.{Done, Running, Waiting, Unfit};
+ghost use Rattle.cjc_components.specs.LowerScript.declared.report.Thing.TheVariants as things;
 ghost use Rattle.cjc_components.specs.LowerJvmSemantics.Worked.{no_image};
-ghost use Rattle.cjc_card_semantics.specs.Machine.Worked.{id, call, send, script, bare, ends};
-ghost use Rattle.cjc_card_semantics.specs.Machine.ByToken.{run};
+ghost use Rattle.cjc_components.specs.LowerCardSemantics.Machine.Worked.{id, call, send, script, bare, ends};
+ghost use Rattle.cjc_components.specs.LowerCardSemantics.Machine.ByToken.{run};
 ghost use Rattle.cjc_examples.specs.Narrow.Both.{after, answer, reports};
 ghost use Rattle.cjc_examples.specs.Narrow.Calculating as Calculating;
 ghost use Rattle.cjc_examples.specs.Narrow.Calculating.{all_stop};

@@ -5,4 +5,5 @@ pub mod Bytes
 pub mod Fixpoint
 pub mod ClassFile
 pub mod World
+pub mod Narrow
 pub mod Components

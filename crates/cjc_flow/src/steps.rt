@@ -8,6 +8,7 @@ ghost use Rattle.cjc_range.specs.Span.{IsWord};
 ghost use Rattle.cjc_intervals.specs.Steps.{arithmetic, field_range, loaded, locals_after, narrowed, operand, stored};
 ghost use Rattle.cjc_intervals.specs.Steps.{two_operands};
 ghost use Rattle.cjc_intervals.specs.Values.{result_ranges};
+ghost use Rattle.cjc_types.specs.Steps.{takes};
 ghost use Rattle.cjc_types.specs.Types.{parts};
 ghost use Rattle.cjc_flow.specs.States.{stack_in};
 ghost use Rattle.cjc_flow.specs.Working.Given.{after_by, behind_by, given_by, stack_by};
@@ -199,8 +200,8 @@ fn put_on(stack: &mut Intervals, cells: Row<Interval>) -> Result<(), NoMemory>
     Ok(())
 }
 
-/// The stack behind an instruction, made of the one before it.
-fn behind(
+/// The stack without what an instruction takes, and with all that it puts there.
+fn with_given(
     alloc: Global,
     value: Option<i32>,
     element: Interval,
@@ -215,6 +216,42 @@ fn behind(
     stack.take_off(insns::takes(op));
     put_on(&mut stack, given)?;
     Ok(stack)
+}
+
+/// The stack without what an instruction takes, and with one interval on it.
+fn with_one(op: &JOp, stack: Intervals, interval: Interval) -> Result<Intervals, NoMemory>
+    ensures { IfOk result (λ behind. behind ≡ interval ∷ drop (takes op.now) stack) }
+{
+    let mut stack = stack;
+    stack.take_off(insns::takes(op));
+    stack.push(interval)?;
+    Ok(stack)
+}
+
+/// The stack behind an instruction, made of the one before it. What the commonest ones put there makes no list.
+fn behind(
+    alloc: Global,
+    value: Option<i32>,
+    element: Interval,
+    op: &JOp,
+    locals: &[Interval],
+    stack: Intervals,
+) -> Result<Intervals, NoMemory>
+    ensures { IfOk result (λ behind. behind ≡ behind_by value element op.now locals.now stack) }
+{
+    match op {
+        JOp::Number(number) => with_one(op, stack, values::exact(*number)),
+        JOp::Load { refs, local } => with_one(op, stack, loaded(*refs, locals, *local)),
+        JOp::Arith(opcode) => {
+            let interval = arithmetic(*opcode, &stack);
+            with_one(op, stack, interval)
+        }
+        JOp::Narrow(opcode) => {
+            let interval = narrowed(*opcode, stack.get(0));
+            with_one(op, stack, interval)
+        }
+        _ => with_given(alloc, value, element, op, locals, stack),
+    }
 }
 
 fn after_stack(

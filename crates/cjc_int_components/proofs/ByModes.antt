@@ -84,7 +84,7 @@ module _ (list : ListTree) (files : Files) (codes : List MethodCode) (t : Tables
 
 -- ---- components
 
-or_false : (a : Bool) → (a || false) ≡ a
+pub or_false : (a : Bool) → (a || false) ≡ a
 or_false true = refl
 or_false false = refl
 

@@ -41,7 +41,7 @@ use Rattle.cjc_int_components.proofs.Layouts.{laid_written}
 
 module _ (files : Files) (code : MethodCode) (class : ClassTree) (method : MethodTree) (tree : CodeTree)
     (is : IsMethodOf files code class method tree) where
-  insns_are : decoded class method tree ≡ code.insns
+  pub insns_are : decoded class method tree ≡ code.insns
   unfolding decoded
   insns_are =
       let e : decoding class method tree ≡ Ok code.insns = sym (ap (of_method class) is.is_method

@@ -54,7 +54,7 @@ static_kind put sort f how is = ap (λ m. suits m (keys.StaticField f)) (sym is)
 pub named_kind : (files : Files) (near : List MemberId) (holder : List ℕ) (op : JOp) (i : NInsn)
     → NamesAs (resolution files near holder) op i → HasKind i
 named_kind files near holder op i (nothing e) = plain_kind i e
-named_kind files near holder op i (static_field put f is_op is) =
+named_kind files near holder op i (static_field put f is_op _ is) =
     subst HasKind (sym is) (static_kind put (field_sort f.desc) (let r = resolution files near holder in r.field f))
 named_kind files near holder op i (outside has k e) =
     let r = resolution files near holder in

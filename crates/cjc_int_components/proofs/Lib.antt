@@ -9,3 +9,7 @@ pub mod ByTables
 pub mod ByModes
 pub mod Selectable
 pub mod Operands
+pub mod Constants
+pub mod Room
+pub mod Words
+pub mod Operations

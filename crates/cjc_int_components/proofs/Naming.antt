@@ -279,18 +279,18 @@ module _ (r : Resolution) where
         (handing f types.params)) (same_outside all refl))
         (plain all (widened_result types.result) (results types.result))
 
-    statics : (put : Bool) (g : MemberId) (constant : Option ℤ) → AllName (jop.Static put g) (if put then static_put r g
-        else static_get r g constant)
-    statics true g constant =
+    statics : (put : Bool) (g : MemberId) (constant : Option ℤ) → r.constant g ≡ constant → AllName (jop.Static put g)
+        (if put then static_put r g else static_get r g constant)
+    statics true g constant e =
         let op = jop.Static true g in
         let access : NInsn = Named (static_access true (field_sort g.desc)) (keys.StaticField (r.field g)) in
         both op (narrowed (field_sort g.desc)) (access ∷ []) (plain op (narrowed (field_sort g.desc))
-        (narrowing (field_sort g.desc))) (names op access (static_field true g refl refl))
-    statics false g (Some z) = plain (jop.Static false g) (pushed z ∷ []) (one (pushed z) (pushes z))
-    statics false g None =
+        (narrowing (field_sort g.desc))) (names op access (static_field true g refl (λ h. absurd cc) refl))
+    statics false g (Some z) e = plain (jop.Static false g) (pushed z ∷ []) (one (pushed z) (pushes z))
+    statics false g None e =
         let op = jop.Static false g in
         let access : NInsn = Named (static_access false (field_sort g.desc)) (keys.StaticField (r.field g)) in
-        both op (access ∷ []) (widened (field_sort g.desc)) (names op access (static_field false g refl refl))
+        both op (access ∷ []) (widened (field_sort g.desc)) (names op access (static_field false g refl (λ h. e) refl))
         (plain op (widened (field_sort g.desc)) (widening (field_sort g.desc)))
 
     fields : (put : Bool) (g : MemberId) → AllName (jop.Field put g) (if put then field_put r g else field_get r g)
@@ -339,7 +339,7 @@ module _ (r : Resolution) where
     naming place b here (jop.Return n) = plain (jop.Return n) (if n == jvm.ireturn then returned f.result
         else Op (leaving n) ∷ []) (either (n == jvm.ireturn) (returned f.result) (Op (leaving n) ∷ [])
         (returning f.result) (bares (leaving n)))
-    naming place b here (jop.Static put g) = statics put g (r.constant g)
+    naming place b here (jop.Static put g) = statics put g (r.constant g) refl
     naming place b here (jop.Field put g) = fields put g
     naming place b here (jop.Call n m) = sends n m (signature_of m.desc)
     naming place b here (jop.New class) = same_outside (jop.New class) refl

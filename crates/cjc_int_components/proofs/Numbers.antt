@@ -147,7 +147,7 @@ module _ (n : Naming) (ks : List PoolKey) (small : IsSmall n ks) where
   pub named_fit : (files : Files) (holder : List ℕ) (op : JOp) (i : NInsn)
       → NamesAs (resolution files (near_fields ks) holder) op i → WordsFit op → NumbersFit n i
   named_fit files holder op i (nothing e) words = plain_fits n i e
-  named_fit files holder op i (static_field put f is_op is) words =
+  named_fit files holder op i (static_field put f is_op _ is) words =
       let key = keys.StaticField (let r = resolution files (near_fields ks) holder in r.field f) in
       subst (NumbersFit n) (sym is) (subst (λ g. IndexFits g (n.index key)) (sym (static_form put (field_sort f.desc)))
       (index_low key))

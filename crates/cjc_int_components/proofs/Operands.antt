@@ -1,14 +1,16 @@
 -- The operands of a method's reached instructions fit what is written for them in int mode.
 use Rattle.std.proofs.Common.{◌≡◌, ℕ, zero, suc, ◌+◌, ◌*◌, ◌-◌, ◌<◌, ◌≤◌, ◌^◌, arith, refl, ap, ◌∙◌}
 use Rattle.std.proofs.Common.{true, List, [], ◌∷◌}
-use Rattle.std.specs.Prelude.{Option, Some, None, slice_get, ℤ, pos, negsuc, ◌≤ℤ◌}
+use Rattle.std.specs.Prelude.{Option, Some, None, length, slice_get, ℤ, pos, negsuc, ◌+ℤ◌, ◌-ℤ◌, ◌≤ℤ◌}
 use Rattle.std.proofs.lemmas.Int.{ints}
 use Rattle.cjc_int_narrow.specs.Bytes.declared.fault.MemberId.{MemberId}
 use Rattle.cjc_check_proof.specs.CapRead.Decode.{IsWithin, negative, positive}
 use Rattle.cjc_ncode.proofs.BytecodeDecoded.{decoded_instruction}
 use Rattle.cjc_ncode.proofs.BytecodeMembers.{read_class}
-use Rattle.cjc_int_narrow.specs.Bytecode.ReadLaws.Instructions.{IsInstruction, NumbersFit}
+use Rattle.cjc_int_narrow.specs.Bytecode.ReadLaws.Instructions.{IsInstruction, MatchesAscend, MatchesFit, NumbersFit}
+use Rattle.cjc_int_narrow.specs.Bytecode.ReadLaws.Instructions.{SwitchFits}
 use Rattle.cjc_int_narrow.specs.Bytecode.ReadLaws.Members.{IsReadClass}
+use Rattle.cjc_int_narrow.specs.Bytecode.declared.insn.JCase.{JCase}
 use Rattle.cjc_int_narrow.specs.Bytecode.declared.insn.JInsn.{JInsn}
 use Rattle.cjc_int_narrow.specs.Bytecode.declared.insn.JOp.{JOp}
 use Rattle.cjc_int_narrow.specs.Bytecode.declared.insn.JOp.TheVariants as jop
@@ -33,12 +35,11 @@ use Rattle.cjc_int_narrow.specs.LowerIntMode.Room.{IsRoom, many_words}
 use Rattle.cjc_int_narrow.specs.LowerIntMode.Written.{argument_words, int_frame, local_words, most_pairs}
 use Rattle.cjc_int_narrow.specs.LowerIntMode.declared.modes.Mode.TheVariants as modes
 use Rattle.cjc_int_narrow.proofs.Whole.{few_enough}
-use Rattle.cjc_int_narrow.specs.LowerIntProof.Operands.{IsInt, OperandsFit}
-use Rattle.cjc_int_components.specs.Switches.{SwitchFits}
+use Rattle.cjc_int_narrow.specs.LowerIntProof.Operands.{IsInt, MatchesRise, OperandsFit, TableFits}
 
 -- ---- numbers
 
-four_bytes : (z : ℤ) → Holds full z → IsInt z
+pub four_bytes : (z : ℤ) → Holds full z → IsInt z
 four_bytes (pos n) h = positive (let le = h.below in omega (arith, ints, le))
 four_bytes (negsuc n) h = negative (let le = h.above in omega (arith, ints, le))
 
@@ -62,6 +63,20 @@ pairs_most (j ∷ insns) (None ∷ rows) (suc k) i x e row = pairs_most insns ro
 pairs_most (j ∷ insns) (Some y ∷ rows) (suc k) i x e row = let rest = pairs_most insns rows k i x e row
     in omega (arith, rest)
 
+-- ---- switches
+
+table : (low : ℤ) (count : ℕ) → MatchesFit low count → TableFits low count
+table low count fit = record {
+  some = fit.some;
+  low_fits = four_bytes low fit.low_fits;
+  high_fits = four_bytes ((low +ℤ pos count) -ℤ pos 1) fit.high_fits;
+}
+
+lookup : (cases : List JCase) → MatchesAscend cases → MatchesRise cases
+lookup [] fit = tt
+lookup (c ∷ []) fit = four_bytes c.value fit
+lookup (c ∷ d ∷ cases) fit = (four_bytes c.value fit.0, fit.1, lookup (d ∷ cases) fit.2)
+
 -- ---- by instruction
 
 fit_by : (f : Frame) (r : Resolution) (op : JOp) → scratch f (scratch_pairs_of op) ≤ 256
@@ -71,8 +86,10 @@ fit_by f r (jop.Number z) pairs locals numbers switch few constants = four_bytes
 fit_by f r (jop.Load refs l) pairs locals numbers switch few constants = locals l refl
 fit_by f r (jop.Store refs l) pairs locals numbers switch few constants = locals l refl
 fit_by f r (jop.Inc l by) pairs locals numbers switch few constants = (locals l refl, two_bytes by numbers)
-fit_by f r (jop.TableSwitch other low targets) pairs locals numbers switch few constants = switch
-fit_by f r (jop.LookupSwitch other cases) pairs locals numbers switch few constants = (omega (arith, few), switch)
+fit_by f r (jop.TableSwitch other low targets) pairs locals numbers switch few constants =
+    table low (length targets) switch
+fit_by f r (jop.LookupSwitch other cases) pairs locals numbers switch few constants =
+    (omega (arith, few), lookup cases switch)
 fit_by f r (jop.Static put g) pairs locals numbers switch few constants = constants g
 fit_by f r (jop.Call op m) pairs locals numbers switch few constants = pairs
 fit_by f r jop.Nop pairs locals numbers switch few constants = tt
@@ -109,18 +126,17 @@ module _ (files : Files) (code : MethodCode) (class : ClassTree) (method : Metho
   is_read : IsReadClass class
   is_read = read_class class bytes spelt.in_bytes spelt.spelt
 
-  numbers : (k : ℕ) (i : JInsn) → slice_get code.insns k ≡ Some i → NumbersFit i.op
-  numbers k i e =
-      let fit : IsInstruction i.op = decoded_instruction class method tree code.insns
-      (decoded files code class method tree is) is_read.integers
-      (is_read.bytes code.method method tree is.is_method is.is_code) k i e in
-      fit.numbers
+  is_instruction : (k : ℕ) (i : JInsn) → slice_get code.insns k ≡ Some i → IsInstruction i.op
+  is_instruction =
+      decoded_instruction class method tree code.insns (decoded files code class method tree is) is_read.integers
+      (is_read.bytes code.method method tree is.is_method is.is_code)
 
   pub int_operands_fit : (k : ℕ) (i : JInsn) (x : State) → slice_get code.insns k ≡ Some i → HasRow rows k x
-      → SwitchFits i.op → widest r i.op ≤ 32767 → OperandsFit (int_frame b) r i.op
-  int_operands_fit k i x e row switch few =
+      → widest r i.op ≤ 32767 → OperandsFit (int_frame b) r i.op
+  int_operands_fit k i x e row few =
       let most = pairs_most code.insns rows k i x e row in
       let all = words in
+      let fit = is_instruction k i e in
       fit_by (int_frame b) r i.op (omega (arith, most, all))
       (λ l names. (let lt = local_there files code class method tree is k i l e names in omega (arith, lt, all)))
-      (numbers k i e) switch few constants
+      fit.numbers fit.switch few constants

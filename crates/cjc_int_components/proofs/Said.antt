@@ -45,7 +45,7 @@ module _ (n : Naming) (r : Resolution) where
   named_said : (op : JOp) (i : NInsn) → NamesAs r op i → names_nothing i ≡ false → NumbersFit n i
       → IsSpellable (laid n (λ label. 0) 0 false i)
   named_said op i (nothing e) names fit = absurd cc
-  named_said op i (static_field put f is_op is) names fit =
+  named_said op i (static_field put f is_op _ is) names fit =
       let key = keys.StaticField (r.field f) in
       subst (λ x. IsSpellable (laid n (λ label. 0) 0 false x)) (sym is)
       (static_said put (field_sort f.desc) key (subst (NumbersFit n) is fit))

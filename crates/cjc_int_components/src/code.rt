@@ -5,6 +5,8 @@ ghost use Rattle.cjc_int_narrow.specs.Bytes.declared.fault.MemberId.{MemberId as
 ghost use Rattle.cjc_int_narrow.specs.Bytecode.declared.insn.JInsn.{JInsn};
 ghost use Rattle.cjc_int_narrow.specs.Bytecode.declared.method_code.MethodCode.{MethodCode};
 ghost use Rattle.cjc_check_proof.specs.LowerEmit.Said.{CanBeSaid};
+ghost use Rattle.cjc_check_proof.specs.LowerExportFile.Writable.{IsWritable};
+ghost use Rattle.cjc_check_proof.specs.LowerExportFile.declared.tree.ExportTree.{ExportTree};
 ghost use Rattle.cjc_check_proof.specs.Fixpoint.Tables.{HasRow};
 ghost use Rattle.cjc_check_proof.specs.Intervals.Frames.{RangeState};
 ghost use Rattle.cjc_int_narrow.specs.LowerNarrow.Rows.Resolved.{resolution};
@@ -30,7 +32,6 @@ ghost use Rattle.cjc_int_narrow.specs.LowerIntMode.Written.{int_frame, written_i
 ghost use Rattle.cjc_int_narrow.specs.LowerIntMode.declared.modes.Mode.TheVariants as modes;
 ghost use Rattle.cjc_int_narrow.specs.LowerIntProof.Operands.{IsInt, OperandsFit};
 ghost use Rattle.cjc_int_components.specs.Names.{NamesAsOneOf, WordsFit};
-ghost use Rattle.cjc_int_components.specs.Switches.{SwitchFits};
 
 /// Each instruction that is written names nothing, or what one of the reached instructions of the class file names.
 pub fn written_code_names_what_is_named()
@@ -82,13 +83,23 @@ pub fn int_code_can_be_said()
 {}
 
 /// The operands of a reached instruction of a method that was decoded fit what is written for it, where its file spells
-/// its class, there is room for the method (417), constants of fields have 32 bits, the numbers of its switches do, and
-/// its own widest size is at most 32,767.
+/// its class, there is room for the method (417), constants of fields have 32 bits, and its own widest size is at most
+/// 32,767.
 pub fn decoded_operands_fit_int_mode()
     ensures { (files : Files) (code : MethodCode) (class : ClassTree) (method : MethodTree) (tree : CodeTree)
         → IsMethodOf files code class method tree → (bytes : List ℕ) → IsSpelt class bytes
         → (rows : List (Option State)) → IsRoom (body_of class method tree code.insns) rows modes.Int true
         → (r : Resolution) → ((g : Member) (z : ℤ) → r.constant g ≡ Some z → IsInt z)
-        → (k : ℕ) (i : JInsn) (x : State) → slice_get code.insns k ≡ Some i → HasRow rows k x → SwitchFits i.op
+        → (k : ℕ) (i : JInsn) (x : State) → slice_get code.insns k ≡ Some i → HasRow rows k x
         → widest r i.op ≤ 32767 → OperandsFit (int_frame (body_of class method tree code.insns)) r i.op }
+{}
+
+/// A constant that an instruction names has 32 bits, where files spell the classes of the package, and some file spells
+/// each of its export trees.
+pub fn constants_of_fields_fit_int_mode()
+    ensures { (files : Files) → ((k : ℕ) (class : ClassTree) → slice_get files.classes k ≡ Some class
+        → (bytes : List ℕ) × IsSpelt class bytes)
+        → ((k : ℕ) (tree : ExportTree) → slice_get files.exports k ≡ Some tree → IsWritable tree)
+        → (near : List Member) (holder : List ℕ) (g : Member) (z : ℤ)
+        → (resolution files near holder).constant g ≡ Some z → IsInt z }
 {}

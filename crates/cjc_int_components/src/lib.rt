@@ -4,6 +4,7 @@
 #![tactic(auto)]
 
 pub mod code;
+pub mod limits;
 pub mod methods;
 pub mod packages;
 pub mod worked;

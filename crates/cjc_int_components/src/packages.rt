@@ -10,7 +10,7 @@ ghost use Rattle.cjc_int_narrow.specs.Bytecode.PackageCodes.{all_codes};
 ghost use Rattle.cjc_int_narrow.specs.Bytecode.declared.method_code.MethodCode.{MethodCode};
 ghost use Rattle.cjc_check_proof.specs.LowerComponents.Components.{components_of, method, tags};
 ghost use Rattle.cjc_check_proof.specs.LowerComponents.Names.{names};
-ghost use Rattle.cjc_check_proof.specs.LowerComponents.Package.{Package, world};
+ghost use Rattle.cjc_check_proof.specs.LowerComponents.Package.{Package, pool, world};
 ghost use Rattle.cjc_check_proof.specs.LowerComponents.Written.{IsPackage};
 ghost use Rattle.cjc_check_proof.specs.JvmSemantics.OnePackage.{method_by};
 ghost use Rattle.cjc_check_proof.specs.LowerList.Listed.{ListTree};
@@ -23,9 +23,13 @@ ghost use Rattle.cjc_int_narrow.specs.World.Order.{class_order};
 ghost use Rattle.cjc_check_proof.specs.TokenProof.Components.Methods.{HasMethods};
 ghost use Rattle.cjc_check_proof.specs.TokenProof.Components.OwnNames.{HaveOwnNames};
 ghost use Rattle.cjc_check_proof.specs.TokenProof.Components.Whole.{whole};
+ghost use Rattle.cjc_check_proof.specs.TokenProof.WrittenCalls.Standing.{AreMethods, TakeTheirWords};
+ghost use Rattle.cjc_check_proof.specs.TokenProof.WrittenSends.Named.{CodeNamesAsWritten};
+ghost use Rattle.cjc_int_narrow.specs.LowerNarrow.Rows.Selected.{near_fields};
 ghost use Rattle.cjc_int_narrow.specs.LowerIntMode.declared.modes.Mode.TheVariants as modes;
 ghost use Rattle.cjc_int_components.specs.Components.{components_by_modes, has_int_mode};
 ghost use Rattle.cjc_int_components.specs.Made.{AllAreMadeByMode};
+ghost use Rattle.cjc_int_components.specs.Names.{PutsNoConstants};
 ghost use Rattle.cjc_int_components.specs.Modes.{AreModes, Tables};
 ghost use Rattle.cjc_int_components.specs.Written.{IsPackageByModes};
 
@@ -43,6 +47,22 @@ pub fn packages_without_int_mode_are_as_before()
         → has_int_mode t p ≡ false → IsPackage list files codes t.types p → IsPackageByModes list files codes t p }
     ensures components { (t : Tables) (p : Package) → has_int_mode t p ≡ false
         → components_by_modes t p ≡ components_of p }
+{}
+
+/// A package by modes has its methods in the order of Method, abstract where their class files say so, and the code of
+/// each takes as many words of arguments as the method's flags and descriptor say.
+pub fn methods_by_modes_take_their_words()
+    ensures order { (list : ListTree) (files : Files) (codes : List MethodCode) (t : Tables) (p : Package)
+        → IsPackageByModes list files codes t p → AreMethods p }
+    ensures words { (list : ListTree) (files : Files) (codes : List MethodCode) (t : Tables) (p : Package)
+        → IsPackageByModes list files codes t p → TakeTheirWords p }
+{}
+
+/// Each instruction of a package by modes names nothing, or what one of its method in the class file names, where no
+/// code puts into a static field that is a constant: so what it names is known by token.
+pub fn code_by_modes_names_as_written()
+    ensures { (list : ListTree) (codes : List MethodCode) (t : Tables) (p : Package)
+        → IsPackageByModes list p.files codes t p → PutsNoConstants p → CodeNamesAsWritten p (near_fields (pool p)) }
 {}
 
 /// Without the line `int` in the list no method with code is in int mode.

@@ -11,6 +11,7 @@ pub mod Bytecode
 pub mod Script
 pub mod CapRead
 pub mod World
+pub mod LowerSubset
 pub mod Intervals
 pub mod Flow
 pub mod CardSemantics

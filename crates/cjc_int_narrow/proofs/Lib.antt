@@ -11,6 +11,7 @@ pub mod Stands
 pub use Rattle.cjc_narrow.proofs.TypesAscending as TypesAscending
 pub use Rattle.cjc_narrow.proofs.TypesLowered as TypesLowered
 pub use Rattle.cjc_narrow.proofs.TypesStanding as TypesStanding
+pub use Rattle.cjc_int_mode.proofs.Named as IntModeNamed
 pub use Rattle.cjc_narrow.proofs.PairsLaws.Roles as NarrowRoles
 pub use Rattle.cjc_int_proof.proofs.LayoutPlaces as LayoutPlaces
 pub use Rattle.cjc_int_proof.proofs.Forms as IntProofForms

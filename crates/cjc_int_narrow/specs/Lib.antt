@@ -9,6 +9,7 @@ pub mod ClassFile
 pub mod Bytecode
 pub mod Script
 pub mod World
+pub mod LowerSubset
 pub mod CardSemantics
 pub mod LowerIntMode
 pub mod LowerNarrow

@@ -88,7 +88,7 @@ free_locals heap f pairs args is =
       agree = free_pairs heap f.max_locals;
     }
 
-handed_words : {heap : Heap} {sorts : List Sort} {ks : List Kind} {vs args : List Value}
+pub handed_words : {heap : Heap} {sorts : List Sort} {ks : List Kind} {vs args : List Value}
     → AllHanded heap sorts ks vs args → length args ≡ widths sorts
 handed_words nothing = refl
 handed_words (one_more {words = ws} {ws = args} handed more) =

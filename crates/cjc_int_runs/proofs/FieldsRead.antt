@@ -1,7 +1,7 @@
 -- getfield and arraylength.
-use Rattle.std.proofs.Common.{◌≡◌, ℕ, ◌+◌, ◌*◌, ◌<◌, ◌≤◌, List, ◌∷◌, [], ◌++◌, length, refl, sym, ap}
+use Rattle.std.proofs.Common.{◌≡◌, ℕ, ◌+◌, ◌≤◌, List, ◌∷◌, [], ◌++◌, length, refl, sym, ap}
 use Rattle.std.proofs.Common.{subst, ◌∙◌, arith}
-use Rattle.std.proofs.Common.{Bool, true, false, ℤ, pos}
+use Rattle.std.proofs.Common.{Bool, true, false, pos}
 use Rattle.std.specs.Prelude.{Option, Some, map, slice_get, nat_le, if◌then◌else◌}
 use Rattle.std.proofs.lemmas.Bool.Decides.{nat_tests}
 use Rattle.std.proofs.lemmas.Int.{ints}
@@ -53,7 +53,7 @@ use Rattle.cjc_int_runs.proofs.Finishing.{OneReference, one_reference, then_wide
 -- ---- what a field holds
 
 -- how a value of a type is read: as one word, as two, or as a reference
-abbrev ReadOf : Named → Heap → Sort → Value → List Value → Type 0
+abbrev pub ReadOf : Named → Heap → Sort → Value → List Value → Type 0
 ReadOf l heap Boolean = OneWord boolean_range
 ReadOf l heap Byte = OneWord byte_range
 ReadOf l heap Short = OneWord short_range
@@ -62,13 +62,13 @@ ReadOf l heap (Reference kind) = OneReference heap (λ s. l.is_of s kind)
 ReadOf l heap NoValue = OneWord full
 
 -- what is held, as words
-record CellRead (l : Named) (heap : Heap) (sort : Sort) (v : Value) : Type 0 where
-  new : List Value
-  few : length new ≤ 2
-  words : (onto : List Value → NEffect) → words_of (letter_of sort) v narrow.Stick onto ≡ onto new
-  pushed : ReadOf l heap sort v new
+pub record CellRead (l : Named) (heap : Heap) (sort : Sort) (v : Value) : Type 0 where
+  pub new : List Value
+  pub few : length new ≤ 2
+  pub words : (onto : List Value → NEffect) → words_of (letter_of sort) v narrow.Stick onto ≡ onto new
+  pub pushed : ReadOf l heap sort v new
 
-cell_read : (l : Named) (heap : Heap) {sort : Sort} {v : Value} → CellFits l heap sort v → CellRead l heap sort v
+pub cell_read : (l : Named) (heap : Heap) {sort : Sort} {v : Value} → CellFits l heap sort v → CellRead l heap sort v
 cell_read l heap (a_boolean {z = z} h) = let a = h.above in let b = h.below in record {
   new = Num z ∷ [];
   few = omega arith;
@@ -175,7 +175,7 @@ module _ (l : Named) (f : Frame) (pairs : ℕ) (m : Method) (ls : List Kind) (co
     (onto vs ws : List Value) (locals words : List (Option Value)) (store : Store) (memory : NMemory)
     (stores : Stores l store memory) (held : IntLocals memory.heap f pairs ls locals words) (ks : List Kind)
     (rest : IntStacks memory.heap ks vs ws) where
-  by_sort : (sort : Sort) (i : NInsn) (e : by_name.Effect) (n : NEffect) → has_values sort ≡ true
+  pub by_sort : (sort : Sort) (i : NInsn) (e : by_name.Effect) (n : NEffect) → has_values sort ≡ true
       → HasIntRoom (length (kind_of l sort ∷ ks)) m.max_stack code.max_stack → StandAt code here (i ∷ widened sort)
       → asked l code i here onto words memory ≡ n
       → Reads (ReadOf l memory.heap sort) at (here + 1) vs ws locals words store memory e n

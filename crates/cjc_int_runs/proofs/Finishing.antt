@@ -1,7 +1,7 @@
 -- An instruction that pushes what is read, and s2i behind it where that is one word of a number.
-use Rattle.std.proofs.Common.{◌≡◌, ℕ, ◌+◌, ◌*◌, ◌<◌, ◌≤◌, List, ◌∷◌, [], ◌++◌, length, refl}
-use Rattle.std.proofs.Common.{◌∙◌, arith}
-use Rattle.std.proofs.Common.{Bool, ℤ}
+use Rattle.std.proofs.Common.{◌≡◌, ℕ, ◌+◌, List, ◌∷◌, [], ◌++◌, length, refl}
+use Rattle.std.proofs.Common.{arith}
+use Rattle.std.proofs.Common.{Bool}
 use Rattle.std.specs.Prelude.{Option, Some, slice_get}
 use Rattle.cjc_range.specs.Span.{Span}
 use Rattle.cjc_script.specs.declared.value.Value.{Value}

@@ -1,8 +1,8 @@
 -- The guard of an index: one word of the two of an index, by which an array is found to have the same item or none.
-use Rattle.std.proofs.Common.{◌≡◌, ℕ, suc, ◌+◌, ◌*◌, ◌<◌, ◌≤◌, List, ◌∷◌, [], ◌++◌, length, refl, sym, ap}
+use Rattle.std.proofs.Common.{◌≡◌, ℕ, suc, ◌+◌, ◌≤◌, List, ◌∷◌, [], ◌++◌, length, refl, sym, ap}
 use Rattle.std.proofs.Common.{◌∙◌, arith}
 use Rattle.std.proofs.Common.{Bool, true, false, ℤ, pos, negsuc, ◌≤ℤ◌, ⊎_elim}
-use Rattle.std.specs.Prelude.{Option, Some, slice_get, nat_le, int_le, ◌&&◌, if◌then◌else◌, take}
+use Rattle.std.specs.Prelude.{Option, Some, slice_get, nat_le, int_le, ◌&&◌, take}
 use Rattle.std.proofs.lemmas.Bool.Decides.{nat_tests}
 use Rattle.std.proofs.lemmas.Bool.{cases_lt}
 use Rattle.std.proofs.lemmas.Int.{ints}

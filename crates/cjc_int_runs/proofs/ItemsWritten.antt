@@ -1,5 +1,5 @@
 -- Elements of arrays are written alike, by an index of two words.
-use Rattle.std.proofs.Common.{◌≡◌, ℕ, ◌+◌, ◌<◌, ◌≤◌, List, ◌∷◌, [], ◌++◌, length, All, refl, sym, ap}
+use Rattle.std.proofs.Common.{◌≡◌, ℕ, ◌+◌, ◌≤◌, List, length, All, refl, sym, ap}
 use Rattle.std.proofs.Common.{subst, ◌∙◌, arith}
 use Rattle.std.proofs.Common.{Bool, true, ℤ}
 use Rattle.std.specs.Prelude.{Option, Some, map, slice_get, slice_set, if◌then◌else◌}

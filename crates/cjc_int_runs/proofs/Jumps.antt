@@ -1,5 +1,5 @@
 -- Jumps with and without a condition lead to one place on both sides.
-use Rattle.std.proofs.Common.{◌≡◌, ℕ, zero, ◌+◌, ◌*◌, ◌<◌, ◌≤◌, List, ◌∷◌, [], ◌++◌, length, refl, sym, ap, ◌∙◌}
+use Rattle.std.proofs.Common.{◌≡◌, ℕ, ◌+◌, ◌<◌, ◌≤◌, List, ◌∷◌, [], ◌++◌, length, refl, sym, ap, ◌∙◌}
 use Rattle.std.proofs.Common.{arith}
 use Rattle.std.proofs.Common.{Bool, true, false, ℤ, pos, negsuc}
 use Rattle.std.specs.Prelude.{Option, Some, slice_get, not, ◌==◌, ◌&&◌, int_le, int_lt, if◌then◌else◌}

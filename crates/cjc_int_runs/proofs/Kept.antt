@@ -1,5 +1,5 @@
 -- Where each array and object keeps its type, frames that agreed agree still.
-use Rattle.std.proofs.Common.{◌≡◌, ℕ, ap, ◌∙◌, List, []}
+use Rattle.std.proofs.Common.{ℕ, ap, ◌∙◌, List}
 use Rattle.std.specs.Prelude.{Option, Bool}
 use Rattle.cjc_script.specs.declared.value.Value.{Value}
 use Rattle.cjc_script.specs.Sorts.{Shape}
@@ -39,3 +39,12 @@ module _ {heap after : Heap} (keeps : Keeps heap after) where
     scratch_words = h.scratch_words;
     agree = pairs_kept h.agree;
   }
+
+-- heaps in turn
+pub keeps_in_turn : (first second third : Heap) → Keeps first second → Keeps second third → Keeps first third
+keeps_in_turn first second third one other k thing is =
+    let p = one k thing is in let q = other k p.thing p.is in record {
+      thing = q.thing;
+      is = q.is;
+      type = q.type ∙ p.type;
+    }

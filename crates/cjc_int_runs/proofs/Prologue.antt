@@ -1,5 +1,5 @@
 -- The prologue brings arguments to the locals of the class file.
-use Rattle.std.proofs.Common.{◌≡◌, ℕ, ◌+◌, ◌*◌, ◌<◌, ◌≤◌, List, ◌∷◌, [], ◌++◌, length, refl, sym, ap}
+use Rattle.std.proofs.Common.{◌≡◌, ℕ, ◌+◌, ◌<◌, ◌≤◌, List, ◌∷◌, [], ◌++◌, length, refl, sym, ap}
 use Rattle.std.proofs.Common.{◌∙◌, arith, Bool, true, ℤ, append_assoc}
 use Rattle.std.specs.Prelude.{Option, Some, map, option_map, slice_get, slice_set, nat_le}
 use Rattle.std.specs.Prelude.{if◌then◌else◌}
@@ -40,7 +40,7 @@ use Rattle.cjc_int_runs.proofs.FrameWords.{locals_long, two_set}
 use Rattle.cjc_int_runs.proofs.Locals.{iload_is, aload_is, istore_is, astore_is, int_read, int_written}
 
 -- an argument of a short type is its word
-is_word_of : (sort : Sort) (x : ℤ) → is_short sort ≡ true → Holds (type_range sort) x → low_word x ≡ x
+pub is_word_of : (sort : Sort) (x : ℤ) → is_short sort ≡ true → Holds (type_range sort) x → low_word x ≡ x
 is_word_of Boolean x e h = let a = h.above in let b = h.below in low_word_same x (omega (arith, ints, a)) (omega (
   arith,
   ints,

@@ -1,5 +1,5 @@
 -- Walks of code by label, instruction by instruction, and how high stacks in int mode are.
-use Rattle.std.proofs.Common.{◌≡◌, ℕ, suc, ◌+◌, ◌*◌, ◌≤◌, ◌<◌, refl, ap, ◌∙◌, arith, true, List, []}
+use Rattle.std.proofs.Common.{◌≡◌, ℕ, suc, ◌+◌, ◌*◌, ◌≤◌, ◌<◌, refl, ap, ◌∙◌, arith, true, List}
 use Rattle.std.proofs.Common.{◌∷◌}
 use Rattle.std.proofs.Common.{◌++◌, length}
 use Rattle.std.specs.Prelude.{Option, Some, option_map, nat_le, nat_lt, slice_get, if◌then◌else◌}

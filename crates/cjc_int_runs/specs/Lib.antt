@@ -5,3 +5,14 @@ pub mod Elements
 pub mod Worked
 pub mod Fields
 pub mod Prologue
+pub mod Calls
+pub mod Throws
+pub mod Modes
+pub mod IntFrames
+pub mod ByModes
+pub mod Rows
+pub mod Bodies
+pub mod Entering
+pub mod Scripted
+pub mod Placed
+pub mod Typed

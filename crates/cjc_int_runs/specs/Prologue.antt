@@ -1,7 +1,7 @@
 -- How a method in int mode begins: its arguments stand in the first words, and the prologue brings them to the locals
 -- of
 -- the class file.
-use Rattle.std.specs.Prelude.{◌≡◌, ℕ, ◌+◌, ◌≤◌, List, [], ◌∷◌, ◌++◌, length, Option, slice_set}
+use Rattle.std.specs.Prelude.{◌≡◌, ℕ, ◌+◌, ◌≤◌, List, [], ◌∷◌, length, Option, slice_set}
 use Rattle.cjc_script.specs.declared.value.Value.{Value}
 use Rattle.cjc_ncode.specs.declared.narrow.NInsn.{NInsn}
 use Rattle.cjc_ncode.specs.declared.narrow.NMethod.{NMethod}

@@ -2,5 +2,8 @@
 //! instruction of the class file at a time. Definitions and laws alone: nothing here runs.
 #![tactic(auto)]
 
+pub mod calls;
+pub mod methods;
 pub mod rows;
+pub mod runs;
 pub mod worked;

@@ -11,7 +11,8 @@ ghost use Rattle.cjc_range.specs.Rows.{ushr_row, and_row, or_row, to_byte_row, t
 ghost use Rattle.cjc_int_proof.specs.Bytecode.Jvm as jvm;
 ghost use Rattle.cjc_int_proof.specs.Bytecode.declared.insn.JCase.{JCase};
 ghost use Rattle.cjc_int_proof.specs.Bytecode.declared.insn.JOp.TheVariants as jop;
-ghost use Rattle.cjc_script.specs.Sorts.{Shape, Sort, Int, Reference, OfNumbers, Booleans, field_sort};
+ghost use Rattle.cjc_script.specs.Sorts.{Shape, Sort, Int, Reference, OfClass, OfNumbers, OfReferences, field_sort};
+ghost use Rattle.cjc_script.specs.Sorts.{Booleans, Bytes, Shorts, Ints};
 ghost use Rattle.cjc_script.specs.declared.value.Value.{Value};
 ghost use Rattle.cjc_script.specs.declared.value.Value.TheVariants.{Num};
 ghost use Rattle.cjc_card_semantics.specs.Bytecode.Machine.{locals_of};
@@ -27,7 +28,9 @@ ghost use Rattle.cjc_narrow_proof.specs.Selection.Elements.{ElementsLie, IsRefer
 ghost use Rattle.cjc_narrow_proof.specs.Selection.Rows.{kind_of};
 ghost use Rattle.cjc_int_runs.specs.Relation.{AllHanded, IntLocals, type_range};
 ghost use Rattle.cjc_int_runs.specs.Prologue.{filled, Brings};
-ghost use Rattle.cjc_int_runs.specs.Fields.{IntFieldIsThere};
+ghost use Rattle.cjc_int_runs.specs.Fields.{IntFieldIsThere, IntCellIsThere, MayBePutInt};
+ghost use Rattle.cjc_narrow_proof.specs.Selection.Cells.{IsConstant};
+ghost use Rattle.cjc_narrow_proof.specs.Selection.Objects.{IsMade, IsClassThere, IsTypeThere};
 ghost use Rattle.cjc_narrow_proof.specs.Selection.Switches.{targets_of};
 ghost use Rattle.cjc_int_runs.specs.Elements.{IsInts};
 ghost use Rattle.cjc_int_runs.specs.Guards.{Guarded};
@@ -303,6 +306,67 @@ pub fn objects_are_read_alike()
     ensures arraylength { (by : Linked) (l : Named) (f : Frame) (pairs : ℕ) (r : Resolution) (m : Method) (b : Before)
         (ls : List Kind) (within : Shape (List ℕ) → Bool) → AreArrays l within
         → IntRow by l f pairs r m b jop.ArrayLength (Refers within ∷ []) (Range (span (pos 0) (pos 32767)) ∷ []) ls ls }
+{}
+
+/// A static field is read alike, and what a constant's name stands for is pushed.
+pub fn static_fields_are_read_alike()
+    ensures cell { (by : Linked) (l : Named) (f : Frame) (pairs : ℕ) (r : Resolution) (m : Method) (b : Before)
+        (ls : List Kind) (named : MemberId) → IntCellIsThere by l r m named
+        → IntRow by l f pairs r m b (jop.Static false named) [] (kind_of l (field_sort named.desc) ∷ []) ls ls }
+    ensures constant { (by : Linked) (l : Named) (f : Frame) (pairs : ℕ) (r : Resolution) (m : Method) (b : Before)
+        (ls : List Kind) (named : MemberId) (z : ℤ) (s : Span) → IsConstant by r m named z → Holds full z → Holds s z
+        → IntRow by l f pairs r m b (jop.Static false named) [] (Range s ∷ []) ls ls }
+{}
+
+/// A field is written alike, and so is a static one: both sides keep the same value of one word or of two, and raise
+/// for null.
+pub fn fields_are_written_alike()
+    ensures putfield { (by : Linked) (l : Named) (f : Frame) (pairs : ℕ) (r : Resolution) (m : Method) (b : Before)
+        (ls : List Kind) (named : MemberId) (k : Kind) (within : Shape (List ℕ) → Bool)
+        → IntFieldIsThere by l r m named within → MayBePutInt l (field_sort named.desc) k
+        → IntRow by l f pairs r m b (jop.Field true named) (k ∷ Refers within ∷ []) [] ls ls }
+    ensures putstatic { (by : Linked) (l : Named) (f : Frame) (pairs : ℕ) (r : Resolution) (m : Method) (b : Before)
+        (ls : List Kind) (named : MemberId) (k : Kind) → IntCellIsThere by l r m named
+        → MayBePutInt l (field_sort named.desc) k → IntRow by l f pairs r m b (jop.Static true named) (k ∷ []) [] ls
+        ls }
+{}
+
+/// Objects and arrays are made alike, with the same fields and as many elements; a negative number of elements raises.
+pub fn objects_are_made_alike()
+    ensures new { (by : Linked) (l : Named) (f : Frame) (pairs : ℕ) (r : Resolution) (m : Method) (b : Before)
+        (ls : List Kind) (within : Shape (List ℕ) → Bool) (class : List ℕ) → IsMade by l m class
+        → within (OfClass class) ≡ true → IntRow by l f pairs r m b (jop.New class) [] (Refers within ∷ []) ls ls }
+    ensures booleans { (by : Linked) (l : Named) (f : Frame) (pairs : ℕ) (r : Resolution) (m : Method) (b : Before)
+        (ls : List Kind) (within : Shape (List ℕ) → Bool) (s : Span) → Within s short_range
+        → within (OfNumbers Booleans) ≡ true
+        → IntRow by l f pairs r m b (jop.NewArray 4) (Range s ∷ []) (Refers within ∷ []) ls ls }
+    ensures bytes { (by : Linked) (l : Named) (f : Frame) (pairs : ℕ) (r : Resolution) (m : Method) (b : Before)
+        (ls : List Kind) (within : Shape (List ℕ) → Bool) (s : Span) → Within s short_range
+        → within (OfNumbers Bytes) ≡ true
+        → IntRow by l f pairs r m b (jop.NewArray 8) (Range s ∷ []) (Refers within ∷ []) ls ls }
+    ensures shorts { (by : Linked) (l : Named) (f : Frame) (pairs : ℕ) (r : Resolution) (m : Method) (b : Before)
+        (ls : List Kind) (within : Shape (List ℕ) → Bool) (s : Span) → Within s short_range
+        → within (OfNumbers Shorts) ≡ true
+        → IntRow by l f pairs r m b (jop.NewArray 9) (Range s ∷ []) (Refers within ∷ []) ls ls }
+    ensures ints { (by : Linked) (l : Named) (f : Frame) (pairs : ℕ) (r : Resolution) (m : Method) (b : Before)
+        (ls : List Kind) (within : Shape (List ℕ) → Bool) (s : Span) → Within s short_range
+        → within (OfNumbers Ints) ≡ true
+        → IntRow by l f pairs r m b (jop.NewArray 10) (Range s ∷ []) (Refers within ∷ []) ls ls }
+    ensures anewarray { (by : Linked) (l : Named) (f : Frame) (pairs : ℕ) (r : Resolution) (m : Method) (b : Before)
+        (ls : List Kind) (within : Shape (List ℕ) → Bool) (s : Span) → Within s short_range
+        → (class : List ℕ) → IsClassThere by l m class → within (OfReferences class) ≡ true
+        → IntRow by l f pairs r m b (jop.ANewArray class) (Range s ∷ []) (Refers within ∷ []) ls ls }
+{}
+
+/// The type of an array or object is asked alike; null is of each type for checkcast, and of none for instanceof.
+pub fn types_are_asked_alike()
+    ensures checkcast { (by : Linked) (l : Named) (f : Frame) (pairs : ℕ) (r : Resolution) (m : Method) (b : Before)
+        (ls : List Kind) (type : List ℕ) (there : IsTypeThere by l m type) (within after : Shape (List ℕ) → Bool)
+        → ((kind : Shape (List ℕ)) → within kind ≡ true → l.is_of kind there.kind ≡ true → after kind ≡ true)
+        → IntRow by l f pairs r m b (jop.CheckCast type) (Refers within ∷ []) (Refers after ∷ []) ls ls }
+    ensures instanceof { (by : Linked) (l : Named) (f : Frame) (pairs : ℕ) (r : Resolution) (m : Method) (b : Before)
+        (ls : List Kind) (type : List ℕ) → IsTypeThere by l m type → (within : Shape (List ℕ) → Bool)
+        → IntRow by l f pairs r m b (jop.InstanceOf type) (Refers within ∷ []) (Range boolean_range ∷ []) ls ls }
 {}
 
 /// The prologue brings arguments of one word and of two to the locals of the class file, in not more instructions than

@@ -1,18 +1,24 @@
-//! Frames made by hand that agree, and what the guard makes of indices at the ends of 16 and 32 bits.
+//! Frames made by hand that agree, a method made by hand that is written and typed, and what the guard makes of
+//! indices at the ends of 16 and 32 bits.
 
-ghost use Rattle.std.specs.Prelude.{◌≡◌, [], ◌∷◌, pos, negsuc};
+ghost use Rattle.std.specs.Prelude.{◌≡◌, [], ◌∷◌, pos, negsuc, Option, Some};
 ghost use Rattle.cjc_range.specs.Span.{short_range, full};
 ghost use Rattle.cjc_script.specs.declared.value.Value.TheVariants.{Num};
-ghost use Rattle.cjc_script.specs.Sorts.{Short, Int};
+ghost use Rattle.cjc_script.specs.Sorts.{Short, Int, Sort};
 ghost use Rattle.cjc_card_semantics.specs.Bytecode.Calculations.{int_words};
 ghost use Rattle.cjc_card_semantics.specs.Bytecode.Numbers.{spelt_by};
-ghost use Rattle.cjc_ncode.specs.ByLabel.{by_label};
+ghost use Rattle.cjc_ncode.specs.ByLabel.{Named, by_label};
 ghost use Rattle.cjc_ncode.specs.WorkedCode.{linked};
 ghost use Rattle.cjc_ncode.specs.IntCode.Worked.{element_frame};
+ghost use Rattle.cjc_jvm_semantics.specs.Linked.{Linked, Method};
 ghost use Rattle.cjc_int_proof.specs.Walks.{Within, walk};
 ghost use Rattle.cjc_narrow_proof.specs.Selection.Relation.{Range};
+ghost use Rattle.cjc_narrow_proof.specs.Selection.Tables.{Table};
+ghost use Rattle.cjc_int_runs.specs.IntFrames.{IntBody, StandsByMode};
 ghost use Rattle.cjc_int_runs.specs.Relation.{IntStacks, IntLocals, AllHanded};
 ghost use Rattle.cjc_int_runs.specs.Steps.{spot};
+ghost use Rattle.cjc_int_runs.specs.Typed.{IsWritten, IntMethodIsTyped};
+ghost use Rattle.cjc_int_runs.specs.Worked.{echo, echo_body, echo_reached};
 ghost use Rattle.cjc_int_runs.specs.Worked.{cells, values, value_words, local_cells, locals, local_words, guard_code};
 
 /// A stack and locals that agree, and arguments that are handed over: a short of one word and an int of two.
@@ -36,4 +42,14 @@ pub fn indices_are_guarded()
         ≡ Within (spot 9 (Num (negsuc 0) ∷ []) [] linked.memory) }
     ensures greatest { walk (by_label linked) guard_code 9 (spot 0 (int_words (pos 2147483647)) [] linked.memory)
         ≡ Within (spot 9 (Num (negsuc 0) ∷ []) [] linked.memory) }
+{}
+
+/// A method made by hand, which takes an int and returns it, is written and typed, in any package where its result
+/// is an
+/// int.
+pub fn an_echo_is_written_and_typed()
+    ensures written { IsWritten echo_body echo echo_reached }
+    ensures typed { (by : Linked) (l : Named) (tb : Table) (bodies : Method → Option IntBody)
+        (results : Method → Option Sort) → results echo ≡ Some Int → IntMethodIsTyped by l (StandsByMode l tb bodies)
+        results tb.narrowed tb.may_throw echo_body echo }
 {}

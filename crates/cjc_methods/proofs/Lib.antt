@@ -23,6 +23,7 @@ pub use Rattle.cjc_world.proofs.Settled as WorldSettled
 pub use Rattle.cjc_world.proofs.Unbroken as WorldUnbroken
 pub use Rattle.cjc_components.proofs.ClassOrderDeclared as ClassOrderDeclared
 pub use Rattle.cjc_components.proofs.ClassOrderStanding as ClassOrderStanding
+pub use Rattle.cjc_components.proofs.SubsetCallees as SubsetCallees
 pub use Rattle.cjc_components.proofs.TokensFacts as TokensFacts
 pub use Rattle.cjc_components.proofs.TokensMeans as TokensMeans
 pub use Rattle.cjc_components.proofs.TokensMeant as TokensMeant

@@ -1,7 +1,7 @@
 //! The narrow code of all methods of a package. Which field instructions have an index of one byte depends on the pool,
 //! and the pool on what code names: so code is selected once to know the pool, and again by the indices that it has.
 
-ghost use Rattle.std.specs.Prelude.{◌≡◌, List, Option, false, All, map, IfOk};
+ghost use Rattle.std.specs.Prelude.{◌≡◌, [], List, Option, false, All, map, IfOk};
 ghost use Rattle.cjc_narrow.specs.Types.declared.state.State.{State as Before};
 ghost use Rattle.cjc_pool.specs.JvmSemantics.Linked.{Method};
 ghost use Rattle.cjc_pool.specs.NCode.PoolOrder.{pool_order};
@@ -10,6 +10,7 @@ ghost use Rattle.cjc_pool.specs.Subset.Ints.{any_works_on_int};
 ghost use Rattle.cjc_components.specs.Written.{code_at};
 ghost use Rattle.cjc_methods.specs.Ready.{AreReady, AreRows, IsOwn};
 ghost use Rattle.cjc_methods.specs.Words.{HasRoom};
+ghost use Rattle.cjc_methods.specs.Working.Places.{class_places};
 
 use crate::places::class_places;
 use crate::selecting::{Sources, codes_at};
@@ -20,6 +21,26 @@ use cjc_narrow::ncode::NMethod;
 use cjc_narrow::types::TypeTable;
 use cjc_world::{Found, World};
 use std::alloc::Global;
+
+/// The pool of these members, which is the same whatever fields have an index of one byte. The code that is selected to
+/// know it is let go.
+fn pool_of(
+    alloc: Global,
+    world: &World<'_>,
+    sources: Sources<'_>,
+    members: &[Found],
+) -> Result<Numbers, NoMemory>
+    requires ready { AreReady world.now sources.codes.now sources.types.now }
+    requires free { any_works_on_int world.now sources.codes.now ≡ false }
+    requires places { sources.places.now ≡ class_places 0 world.now.classes }
+    requires own { All (IsOwn world.now) members.now }
+    requires room { All (HasRoom world.now) members.now }
+    ensures { (rows : Method → List (Option Before)) → AreRows world.now sources.entry.codes.now sources.entry.types.now
+        rows → IfOk result (λ pool. pool ≡ pool_order (map (code_at world.now (near_fields []) rows) members.now)) }
+{
+    let codes = codes_at(alloc, world, sources, &Numbers::new(alloc), members)?;
+    number(alloc, codes.items())
+}
 
 /// The narrow code of these members of the package, which are its methods in the order of Method: each with the
 /// short form of a field instruction exactly where the field has an index of one byte in the pool of all.
@@ -44,7 +65,6 @@ pub fn narrow_codes(
         types,
         places: places.items(),
     };
-    let first = codes_at(alloc, world, sources, &Numbers::new(alloc), members)?;
-    let pool = number(alloc, first.items())?;
+    let pool = pool_of(alloc, world, sources, members)?;
     codes_at(alloc, world, sources, &pool, members)
 }

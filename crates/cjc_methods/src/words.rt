@@ -53,15 +53,18 @@ fn spot_in<'w>(
     }
 }
 
-/// Rule 417 at a method.
+/// Rule 417 at a method. The file of its class is asked for only where it is broken.
 fn words_break<'w>(world: &'w World<'_>, member: Found) -> Result<Option<Break<'w>>, NoMemory>
     requires { IsOwn world.now member }
     ensures { IfOk result (λ b. IsFirstOf (word_breaks_in world.now member) (option_map break_of b)) }
 {
     let method = method_in(world, member);
     let words = argument_words(method.flags, method.desc)?;
+    if words <= MOST_WORDS {
+        return Ok(None);
+    }
     let spot = spot_in(world, member, method, 0);
-    Ok(broken(words > MOST_WORDS, spot, 417))
+    Ok(broken(true, spot, 417))
 }
 
 /// The first of the methods that break rule 417.

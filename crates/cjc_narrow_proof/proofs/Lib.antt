@@ -7,7 +7,6 @@ pub mod NamesLaws
 -- Lemmas of lower crates, for those above.
 pub use Rattle.cjc_range.proofs.Spans as RangeSpans
 pub use Rattle.cjc_code.proofs.ReadLaws.Members as BytecodeMembers
-pub use Rattle.cjc_subset.proofs.Callees as SubsetCallees
 pub use Rattle.cjc_vtable.proofs.Asked as VTableAsked
 pub use Rattle.cjc_vtable.proofs.Filed as VTableFiled
 pub use Rattle.cjc_vtable.proofs.Numbers as VTableNumbers

@@ -2,11 +2,6 @@
 #![tactic(auto)]
 
 // Lower crates, for those above.
-/// What crates above take of cjc_subset.
-pub mod subset {
-    pub use cjc_subset::any_works_on_int;
-}
-
 /// What crates above take of cjc_types.
 pub mod types {
     pub use cjc_types::State;

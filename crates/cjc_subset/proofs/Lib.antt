@@ -6,6 +6,7 @@ pub mod Noted
 pub mod Unmet
 pub mod Callees
 pub mod Fits
+pub mod Clean
 -- Lemmas of lower crates, for those above.
 pub use Rattle.cjc_bytes.proofs.Gets as BytesGets
 pub use Rattle.cjc_bytes.proofs.Lists as BytesLists

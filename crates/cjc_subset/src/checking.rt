@@ -1,7 +1,7 @@
 //! Rules 301, 302, 304 to 307, 309, 310 and 401 to 409 over a package, in the order of refusals.
 
-ghost use Rattle.std.specs.Prelude.{◌≡◌, ◌&&◌, ◌<◌, ℕ, [], length, map, not, option_map, is_some, nat_lt, IfErr, IfOk};
-ghost use Rattle.std.specs.Prelude.{OnOk};
+ghost use Rattle.std.specs.Prelude.{◌≡◌, ◌&&◌, ◌||◌, ◌<◌, ℕ, [], length, map, not, option_map, is_some, nat_lt, IfErr};
+ghost use Rattle.std.specs.Prelude.{IfOk, IsTrue, OnOk};
 ghost use Rattle.cjc_code.specs.ClassFile.declared.tree.MethodTree.{MethodTree as Method};
 ghost use Rattle.cjc_code.specs.ClassFile.declared.tree.ClassTree.{ClassTree as Tree};
 ghost use Rattle.cjc_bytes.specs.AccessFlags.{is_interface};
@@ -14,7 +14,7 @@ ghost use Rattle.cjc_subset.specs.Working.Kinds.{kinds_of};
 ghost use Rattle.cjc_subset.specs.Places.{at_class, at_method};
 ghost use Rattle.cjc_bytes.specs.Order.{FilePlace, file_of};
 ghost use Rattle.cjc_subset.specs.Flags.{is_unfit_method};
-ghost use Rattle.cjc_subset.specs.Types.{is_int_desc, names_int};
+ghost use Rattle.cjc_subset.specs.Types.{is_int_desc, names_int, names_unsupported};
 
 use crate::applets::has_unfit_applets;
 use crate::exports::exports_break;
@@ -105,7 +105,28 @@ fn insns_break<'w>(
     least
 }
 
-/// The first rule that is broken in the method of a code.
+/// Whether one of 301, 302 and 310 is broken at an instruction.
+fn breaks_any(world: &World<'_>, settings: &Settings, op: &JOp) -> bool
+    ensures { result ≡ (names_unsupported op.now || ((not settings.now.ints && names_int op.now)
+        || names_variable world.now op.now)) }
+{
+    names_unsupported(op) || (needs_ints(settings, op) || names_variable(world, op))
+}
+
+/// Whether none of them is broken at these instructions, wherever they stand.
+fn are_clean(world: &World<'_>, settings: &Settings, insns: &[JInsn]) -> bool
+    ensures { IsTrue result → (f : FilePlace) (c : Tree) (place : ℕ) (m : Method)
+        → each (λ _ insn. insn_breaks world.now settings.now f c place m insn) insns.now ≡ [] }
+{
+    for insn in insns {
+        if breaks_any(world, settings, &insn.op) {
+            return false;
+        }
+    }
+    true
+}
+
+/// The first rule that is broken in the method of a code. The file of a class is asked for only where one is broken.
 #[tactic(auto, unfolding(crate::specs::Checks::code_breaks))]
 fn code_break<'w>(world: &'w World<'_>, settings: &Settings, code: &MethodCode) -> Option<Break<'w>>
     ensures { IsFirstOf (code_breaks world.now settings.now code.now) (option_map break_of result) }
@@ -113,6 +134,9 @@ fn code_break<'w>(world: &'w World<'_>, settings: &Settings, code: &MethodCode) 
     let class = world.classes().items().get(code.class as usize)?;
     let place = code.method as usize;
     let method = class.methods.items().get(place)?;
+    if are_clean(world, settings, code.insns.items()) {
+        return None;
+    }
     let file = file_of(world.lines().items(), code.class as usize);
     let spot = class_spot(file, class);
     insns_break(

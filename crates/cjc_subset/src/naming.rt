@@ -1,6 +1,7 @@
 //! Rules 203, 205 and 206: what the instructions and the catch types of methods name is there, and may be used so.
 
-ghost use Rattle.std.specs.Prelude.{◌≡◌, ℕ, ◌<◌, true, false, [], length, slice_get, Option, option_map, IfErr, OnOk};
+ghost use Rattle.std.specs.Prelude.{◌≡◌, ◌||◌, ℕ, ◌<◌, true, false, [], length, slice_get, Option, option_map, IfErr};
+ghost use Rattle.std.specs.Prelude.{IsTrue, OnOk};
 ghost use Rattle.cjc_code.specs.Items.{is_interface_method};
 ghost use Rattle.cjc_world.specs.Classes.{all_classes, class_named};
 ghost use Rattle.cjc_world.specs.Exported.{is_imported};
@@ -470,7 +471,68 @@ fn method_break<'w>(
     )
 }
 
-/// The first rule that is broken in the method of a code.
+/// Whether one of these rules is broken at an instruction of a method.
+fn breaks_any(
+    world: &World<'_>,
+    class: &ClassTree<'_>,
+    method: &MethodTree<'_>,
+    insn: &JInsn,
+) -> bool
+    ensures { result ≡ (names_missing (all_classes world.now) insn.now.op || (names_unfound (all_classes world.now)
+        insn.now.op || (names_other_kind (all_classes world.now) class.now method.now insn.now.at insn.now.op
+        || names_unfit world.now class.now insn.now.op))) }
+{
+    names_missing(world, &insn.op)
+        || (names_unfound(world, &insn.op)
+            || (names_other_kind(world, class, method, insn.at, &insn.op)
+                || names_unfit(world, class, &insn.op)))
+}
+
+/// Whether none of them is broken at these instructions of a method, wherever its class stands.
+fn are_clean(
+    world: &World<'_>,
+    class: &ClassTree<'_>,
+    method: &MethodTree<'_>,
+    insns: &[JInsn],
+) -> bool
+    ensures { IsTrue result → (f : FilePlace) (place : ℕ)
+        → each (λ _ insn. insn_breaks world.now f class.now place method.now insn) insns.now ≡ [] }
+{
+    for insn in insns {
+        if breaks_any(world, class, method, insn) {
+            return false;
+        }
+    }
+    true
+}
+
+/// Whether a method may have handlers.
+fn has_handlers(method: &MethodTree<'_>) -> bool
+    ensures { result ≡ false → catches_of method.now.code ≡ [] }
+{
+    match catches_of(method) {
+        [] => false,
+        _ => true,
+    }
+}
+
+/// Whether none of them is broken in a method without handlers, wherever its class stands.
+fn is_clean(
+    world: &World<'_>,
+    class: &ClassTree<'_>,
+    method: &MethodTree<'_>,
+    insns: &[JInsn],
+) -> bool
+    ensures { IsTrue result → (f : FilePlace) (place : ℕ)
+        → method_breaks world.now f class.now place method.now insns.now ≡ [] }
+{
+    if has_handlers(method) {
+        return false;
+    }
+    are_clean(world, class, method, insns)
+}
+
+/// The first rule that is broken in the method of a code. The file of a class is asked for only where one may be.
 #[tactic(auto, unfolding(crate::specs::Names::code_breaks))]
 fn code_break<'w>(world: &'w World<'_>, code: &MethodCode) -> Option<Break<'w>>
     ensures { IsFirstOf (code_breaks world.now code.now) (option_map break_of result) }
@@ -478,6 +540,9 @@ fn code_break<'w>(world: &'w World<'_>, code: &MethodCode) -> Option<Break<'w>>
     let class = world.classes().items().get(code.class as usize)?;
     let place = code.method as usize;
     let method = class.methods.items().get(place)?;
+    if is_clean(world, class, method, code.insns.items()) {
+        return None;
+    }
     let file = file_of(world.lines().items(), code.class as usize);
     let spot = class_spot(file, class);
     method_break(world, class, place, method, code.insns.items(), spot)

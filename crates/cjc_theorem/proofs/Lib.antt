@@ -4,9 +4,16 @@ pub mod FairExports
 pub mod FairWriting
 pub mod AlikeLaws
 -- Lemmas of lower crates, for those above.
-pub use Rattle.cjc_code.proofs.ReadLaws.Members as BytecodeMembers
+pub use Rattle.cjc_vtable.proofs.Agrees as VTableAgrees
+pub use Rattle.cjc_vtable.proofs.Asked as VTableAsked
+pub use Rattle.cjc_vtable.proofs.Assigned as VTableAssigned
+pub use Rattle.cjc_vtable.proofs.Calls as VTableCalls
 pub use Rattle.cjc_vtable.proofs.Filed as VTableFiled
+pub use Rattle.cjc_vtable.proofs.Given as VTableGiven
+pub use Rattle.cjc_vtable.proofs.Once as VTableOnce
 pub use Rattle.cjc_vtable.proofs.Read as VTableRead
+pub use Rattle.cjc_vtable.proofs.Told as VTableTold
+pub use Rattle.cjc_vtable.proofs.Worlds as VTableWorlds
 pub use Rattle.cjc_narrow_proof.proofs.LawsLaws.Instructions as NarrowProofInstructions
 pub use Rattle.cjc_narrow_proof.proofs.LawsLaws.Own as NarrowProofOwn
 pub use Rattle.cjc_narrow_proof.proofs.TablesLaws.Spelt as NarrowProofSpelt

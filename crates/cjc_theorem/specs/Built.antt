@@ -2,7 +2,7 @@
 -- side
 -- by side (Java Card Virtual Machine Specification 2.2.2, chapter 5).
 use Rattle.std.specs.Prelude.{◌≡◌, ℕ, List, [], ◌∷◌, Some, slice_get}
-use Rattle.cjc_code.specs.ClassFile.declared.tree.ClassTree.{ClassTree}
+use Rattle.cjc_world.specs.ClassFile.declared.tree.ClassTree.{ClassTree}
 use Rattle.cjc_components.specs.ExportFile.{export_of}
 use Rattle.cjc_components.specs.Limits.{limit_breaks}
 use Rattle.cjc_token_proof.specs.List.Listed.{ListTree}
@@ -13,7 +13,7 @@ use Rattle.cjc_shape_proof.specs.LowerJudge.Spelt.{IsRead}
 use Rattle.cjc_shape_proof.specs.LowerJudge.declared.judged.Judged.{Judged}
 use Rattle.cjc_shape_proof.specs.LowerShape.Prepared.{IsSound}
 use Rattle.cjc_shape_proof.specs.LowerShape.Whole.Conversion.{IsPackageOf}
-use Rattle.cjc_subset.specs.Members.{imports}
+use Rattle.cjc_token_proof.specs.Subset.Members.{imports}
 use Rattle.cjc_theorem.specs.FairExports.Fair.{ExportsAreFair, world_of}
 use Rattle.cjc_world.specs.Supertypes.{IsAcyclic, Lists}
 use Rattle.cjc_world.specs.Upwards.{Has}

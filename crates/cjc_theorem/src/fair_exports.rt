@@ -3,7 +3,7 @@
 //! behaves as its class files. It has a definition and laws alone; nothing here runs.
 ghost use Rattle.std.specs.Prelude.{◌≡◌, ℕ, List, [], ◌∷◌};
 ghost use Rattle.cjc_bytes.specs.declared.settings.Settings.{Settings};
-ghost use Rattle.cjc_code.specs.declared.method_code.MethodCode.{MethodCode};
+ghost use Rattle.cjc_components.specs.Bytecode.declared.method_code.MethodCode.{MethodCode};
 ghost use Rattle.cjc_components.specs.Package.{Package, world};
 ghost use Rattle.cjc_theorem.specs.FairExports.Fair.{ExportsAreFair};
 ghost use Rattle.cjc_theorem.specs.FairExports.Worked.{framework, lang, q};
@@ -12,7 +12,7 @@ ghost use Rattle.cjc_token_proof.specs.Tables.Sound.{IsSound};
 ghost use Rattle.cjc_vtable.specs.Kept.{ExportsAgree};
 ghost use Rattle.cjc_world.specs.Files.{Files};
 ghost use Rattle.cjc_shape_proof.specs.Written.Converted.{ExportsArePlain};
-ghost use Rattle.cjc_subset.specs.Checks.{check_breaks};
+ghost use Rattle.cjc_token_proof.specs.Subset.Checks.{check_breaks};
 ghost use Rattle.cjc_token_proof.specs.WrittenSends.Sends.{ExportsSend};
 
 /// Where a package of read files breaks none of 201 to 204, 207 and 208, and none of the rules of the card's language

@@ -3,14 +3,9 @@
 #![tactic(auto)]
 
 // Lower crates, for those above.
-/// What crates above take of cjc_code.
-pub mod bytecode {
-    pub use cjc_code::jvm;
-}
-
 /// What crates above take of cjc_vtable.
 pub mod vtable {
-    pub use cjc_vtable::{package_laws, slot_laws};
+    pub use cjc_vtable::{dispatch_laws, package_laws, slot_laws, token_laws};
 }
 
 /// What crates above take of cjc_shape_proof.

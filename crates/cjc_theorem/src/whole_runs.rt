@@ -10,7 +10,7 @@ ghost use Rattle.cjc_jvm_semantics.specs.ByName.{run as run_by_name};
 ghost use Rattle.cjc_jvm_semantics.specs.Linked.{Method};
 ghost use Rattle.cjc_token_proof.specs.Clinit.Image.{IsImage};
 ghost use Rattle.cjc_token_proof.specs.Clinit.Rules.{BreaksImage};
-ghost use Rattle.cjc_code.specs.declared.method_code.MethodCode.{MethodCode};
+ghost use Rattle.cjc_components.specs.Bytecode.declared.method_code.MethodCode.{MethodCode};
 ghost use Rattle.cjc_token_proof.specs.Narrow.Rows.Package.{run as narrow_run};
 ghost use Rattle.cjc_shape_proof.specs.Whole.{IsWhole};
 ghost use Rattle.cjc_narrow_proof.specs.Runs.Converted.{IsConverted, IsFirst};

@@ -5,6 +5,13 @@ pub mod TablesLaws
 pub mod WrittenCalls
 pub mod WrittenSends
 -- Lemmas of lower crates, for those above.
+pub use Rattle.cjc_bytes.proofs.Gets as BytesGets
+pub use Rattle.cjc_bytes.proofs.Lists as BytesLists
+pub use Rattle.cjc_bytes.proofs.Numbers as BytesNumbers
+pub use Rattle.cjc_vtable.proofs.Filed as VTableFiled
+pub use Rattle.cjc_vtable.proofs.Numbers as VTableNumbers
+pub use Rattle.cjc_ncode.proofs.LoweringLaws.Fetching as NCodeFetching
+pub use Rattle.cjc_ncode.proofs.LoweringLaws.Packed as NCodePacked
 pub use Rattle.cjc_world_proof.proofs.CallsLaws.Fields as WorldProofFields
 pub use Rattle.cjc_world_proof.proofs.CallsLaws.Own as WorldProofOwn
 pub use Rattle.cjc_world_proof.proofs.CallsLaws.Scripts as WorldProofScripts

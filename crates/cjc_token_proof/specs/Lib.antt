@@ -8,6 +8,7 @@ pub mod WrittenSends
 pub mod List
 pub mod Script
 pub mod ClassOrder
+pub mod Subset
 pub mod VTable
 pub mod Clinit
 pub mod CheckRules

@@ -43,7 +43,7 @@ ghost use Rattle.cjc_world.specs.Files.{Files};
 ghost use Rattle.cjc_vtable.specs.Kept.{Keeps};
 ghost use Rattle.cjc_token_proof.specs.WrittenCalls.Calls.{ExportsKeep, IsNamed, KeepsSubtypes, KeepsTokens};
 ghost use Rattle.cjc_token_proof.specs.WrittenCalls.Calls.{NoStaticMethods, Receives, TakesWords};
-ghost use Rattle.cjc_token_proof.specs.WrittenCalls.Standing.{AreMethods, AreReady, IsSmall, place};
+ghost use Rattle.cjc_token_proof.specs.WrittenCalls.Standing.{AreMethods, AreReady, IsSmall, TakeTheirWords, place};
 
 use crate::tables::classes_are_told;
 use cjc_components::layout::layouts_are_laid_out;
@@ -65,6 +65,13 @@ pub fn methods_are_in_order<T>()
         → List (Option T)) (p : Package) → IsPackage list files codes rows p → AreMethods p }
 {}
 
+/// The code of each method takes as many words of arguments as the method's flags and descriptor say, and so does a
+/// method that is added to its class.
+pub fn methods_take_their_words<T>()
+    ensures { (list : ListTree) (files : Files) (codes : List MethodCode) (rows : Method
+        → List (Option T)) (p : Package) → IsPackage list files codes rows p → TakeTheirWords p }
+{}
+
 /// Each method of a class file that stands in Method begins on the card at its offset, with what its header says, and
 /// Descriptor lists it there.
 pub fn methods_begin_at_offsets()
@@ -76,9 +83,8 @@ pub fn methods_begin_at_offsets()
 
 /// A method of an interface that a class has no code of, and that so is added to the class in Method, begins on
 /// the card at its offset as an abstract one, with the words of its descriptor.
-pub fn added_methods_begin<T>()
-    ensures { (list : List ℕ) (tree : ListTree) (codes : List MethodCode) (rows : Method
-        → List (Option T)) (p : Package) → IsSound list p.files → IsPackage tree p.files codes rows p → AreReady p
+pub fn added_methods_begin()
+    ensures { (list : List ℕ) (p : Package) → IsSound list p.files → AreReady p → AreMethods p → TakeTheirWords p
         → (f : Found) → f.imported ≡ false → is_in_method (world p) f ≡ true → method_at p.files f ≡ None
         → (s : Start Code) × ((let n = naming p in start_of n.loaded n.part (method_offset p f)) ≡ Some s)
         × (s.is_abstract ≡ true) × (s.nargs ≡ added_words (world p) f (class_at (world p) f.imported f.class)) }
@@ -118,9 +124,8 @@ pub fn calls_reach()
 /// Each call takes by token as many words of arguments as it takes by name: by the header of the method where it is one
 /// of the package, of one that its class got from an interface too, by the descriptor of an imported one, and an
 /// interface's by its operand.
-pub fn calls_take_words<T>()
-    ensures { (list : List ℕ) (tree : ListTree) (codes : List MethodCode) (rows : Method
-        → List (Option T)) (p : Package) → IsSound list p.files → IsPackage tree p.files codes rows p → AreReady p
+pub fn calls_take_words()
+    ensures { (list : List ℕ) (p : Package) → IsSound list p.files → AreReady p → AreMethods p → TakeTheirWords p
         → IsSmall p → Keeps (world p) → KeepsSubtypes (world p) → KeepsTokens (world p) → ExportsKeep p
         → (m : Callee) → IsNamed (world p) m → TakesWords (world p) m → (k : ℕ) → words p.files (world p) m ≡ Some k
         → (let n = naming p in Calls.words n.loaded (callee n m) ≡ Some k) }

@@ -12,9 +12,10 @@ ghost use Rattle.cjc_token_proof.specs.Calls.Reaching as Reaching;
 ghost use Rattle.cjc_card_semantics.specs.Machine.Calls as Calls;
 ghost use Rattle.cjc_world_proof.specs.Bytecode.declared.method_code.MethodCode.{MethodCode};
 ghost use Rattle.cjc_components.specs.Methods.{placed_methods};
-ghost use Rattle.cjc_components.specs.Package.{Package, world};
+ghost use Rattle.cjc_components.specs.Package.{Package, pool, world};
 ghost use Rattle.cjc_components.specs.Written.{IsPackage};
 ghost use Rattle.cjc_components.specs.LowerList.Listed.{ListTree};
+ghost use Rattle.cjc_components.specs.LowerNarrow.Rows.Selected.{near_fields};
 ghost use Rattle.cjc_ncode.specs.Lowering.Agreement.{IsAmong, IsKnownCall, names};
 ghost use Rattle.cjc_ncode.specs.Lowering.Placed.{Placed, code_of, offset_of};
 ghost use Rattle.cjc_ncode.specs.ByLabel.{Callee, operation};
@@ -29,7 +30,7 @@ ghost use Rattle.cjc_world.specs.Files.{Files};
 ghost use Rattle.cjc_token_proof.specs.WrittenCalls.Calls.{ExportsKeep, IsNamed, KeepsSubtypes, KeepsTokens};
 ghost use Rattle.cjc_token_proof.specs.WrittenCalls.Calls.{NoStaticMethods, Receives, TakesWords};
 ghost use Rattle.cjc_token_proof.specs.WrittenCalls.Standing.{AreMethods, AreReady, IsSmall, place};
-ghost use Rattle.cjc_token_proof.specs.WrittenSends.Named.{CallsAreNamed, FaultsAreClasses};
+ghost use Rattle.cjc_token_proof.specs.WrittenSends.Named.{CallsAreNamed, CodeNamesAsWritten, FaultsAreClasses};
 ghost use Rattle.cjc_token_proof.specs.WrittenSends.Named.{InstructionsNameWhatIsThere, is_called, known, known_tests};
 ghost use Rattle.cjc_token_proof.specs.WrittenSends.Sends.{ExportsSend, InterfacesAsk};
 
@@ -39,11 +40,18 @@ use cjc_components::layout::layouts_are_laid_out;
 use cjc_vtable::{dispatch_laws, token_laws};
 use cjc_world::lookup_laws;
 
-/// What an instruction in Method names is known: fields, static cells, classes and calls, where the class files
-/// name what is there. Each call of the package is one that the rules of names allow.
-pub fn operations_are_known<T>()
-    ensures known { (list : ListTree) (codes : List MethodCode) (rows : Method → List (Option T)) (p : Package)
-        → IsPackage list p.files codes rows p → InstructionsNameWhatIsThere p
+/// Each instruction that is written for a package names nothing, or is one that is written for an instruction of its
+/// method.
+pub fn code_names_as_written<T>()
+    ensures { (list : ListTree) (codes : List MethodCode) (rows : Method → List (Option T)) (p : Package)
+        → IsPackage list p.files codes rows p → CodeNamesAsWritten p (near_fields (pool p)) }
+{}
+
+/// What an instruction in Method names is known: fields, static cells, classes and calls, where code names as it is
+/// written outside int mode, and the class files name what is there. Each call of the package is one that the rules of
+/// names allow.
+pub fn operations_are_known()
+    ensures known { (p : Package) (near : List Member) → CodeNamesAsWritten p near → InstructionsNameWhatIsThere p
         → (q : Placed) (k : ℕ) (insn : NInsn) → IsAmong (placed_methods p) q
         → (let m = q.method in slice_get m.insns k ≡ Some insn)
         → KnownOperation (known p) (IsKnownCall (known_tests p)) (operation insn) }

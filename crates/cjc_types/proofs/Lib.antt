@@ -30,4 +30,5 @@ pub use Rattle.cjc_bytes.proofs.Lists as BytesLists
 pub use Rattle.cjc_bytes.proofs.Numbers as BytesNumbers
 pub use Rattle.cjc_bytes.proofs.Quantified as BytesQuantified
 pub use Rattle.cjc_fixpoint.proofs.AllMarked as FixpointAllMarked
+pub use Rattle.cjc_code.proofs.ReadLaws.Members as BytecodeMembers
 pub use Rattle.cjc_world.proofs.Walked as WorldWalked

@@ -124,7 +124,13 @@ impl Operands {
         let mut left = count;
         while left >= own.len() {
             let Some(part) = parts.pop() else {
-                return Ok(Operands::new(alloc));
+                // (what is put on next finds the memory of these cells)
+                own.clear();
+                return Ok(Operands {
+                    parts: Vec::new(alloc),
+                    deep: 0,
+                    own,
+                });
             };
             left -= own.len();
             deep -= part.items().len();

@@ -3,6 +3,7 @@
 
 ghost use Rattle.std.specs.Prelude.{◌≡◌, ◌≤◌, List, [], ◌∷◌, ◌++◌, map, length, drop, slice_set, if◌then◌else◌, IfOk};
 ghost use Rattle.cjc_types.specs.Steps.{operand, local_value as value_of_local, gives, stack_behind, stack_after};
+ghost use Rattle.cjc_types.specs.Steps.{takes};
 ghost use Rattle.cjc_types.specs.Steps.{stored, locals_after, after as state_after};
 ghost use Rattle.cjc_types.specs.Types.{parts, result_of, element_of, as_reference, array_of};
 ghost use Rattle.cjc_types.specs.declared.cell.Cell.{Cell as Known};
@@ -157,14 +158,44 @@ pub(crate) fn gives_count(op: &JOp) -> usize
     }
 }
 
-/// The stack behind an instruction, made of the one before it.
-fn behind(alloc: Global, op: &JOp, locals: &[Cell], stack: Operands) -> Result<Operands, NoMemory>
+/// The stack without what an instruction takes, and with all that it puts there.
+fn with_given(
+    alloc: Global,
+    op: &JOp,
+    locals: &[Cell],
+    stack: Operands,
+) -> Result<Operands, NoMemory>
     ensures { IfOk result (λ behind. behind ≡ stack_behind op.now locals.now stack) }
 {
     let given = given(alloc, op, locals, &stack)?;
     let mut stack = stack.below(alloc, insns::takes(op))?;
     put_on(alloc, &mut stack, given)?;
     Ok(stack)
+}
+
+/// The stack without what an instruction takes, and with one cell on it.
+fn with_one(alloc: Global, op: &JOp, stack: Operands, cell: Cell) -> Result<Operands, NoMemory>
+    ensures { IfOk result (λ behind. behind ≡ cell ∷ drop (takes op.now) stack) }
+{
+    let mut stack = stack.below(alloc, insns::takes(op))?;
+    stack.push(alloc, cell)?;
+    Ok(stack)
+}
+
+/// The stack behind an instruction, made of the one before it. What the commonest ones put there makes no list.
+fn behind(alloc: Global, op: &JOp, locals: &[Cell], stack: Operands) -> Result<Operands, NoMemory>
+    ensures { IfOk result (λ behind. behind ≡ stack_behind op.now locals.now stack) }
+{
+    match op {
+        JOp::Number(_) | JOp::Arith(_) | JOp::Narrow(_) => {
+            with_one(alloc, op, stack, Cell::Number)
+        }
+        JOp::Load { refs, local } => {
+            let cell = local_value(*refs, locals, *local)?;
+            with_one(alloc, op, stack, cell)
+        }
+        _ => with_given(alloc, op, locals, stack),
+    }
 }
 
 fn after_stack(alloc: Global, op: &JOp, locals: &[Cell], stack: Stack) -> Result<Stack, NoMemory>

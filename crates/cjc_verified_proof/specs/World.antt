@@ -8,4 +8,5 @@ pub use Rattle.cjc_world.specs.Order as Order
 pub use Rattle.cjc_world.specs.Rules as Rules
 pub use Rattle.cjc_world.specs.Subtype as Subtype
 pub use Rattle.cjc_world.specs.Supertypes as Supertypes
+pub use Rattle.cjc_world.specs.Upwards as Upwards
 pub use Rattle.cjc_world.specs.declared as declared

@@ -19,7 +19,7 @@ pub mod verify {
 
 /// What crates above take of cjc_token_proof.
 pub mod token_proof {
-    pub use cjc_token_proof::{by_token, tables};
+    pub use cjc_token_proof::{by_token, calls, tables};
 }
 
 pub mod checked;

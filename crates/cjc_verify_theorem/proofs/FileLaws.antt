@@ -30,7 +30,7 @@ use Rattle.cjc_theorem.specs.LowerJudge.declared.judged.Judged.{Judged}
 use Rattle.cjc_theorem.proofs.JudgeFirsts.{all_spell}
 use Rattle.cjc_verified_proof.specs.List.Listed.{ListTree}
 use Rattle.cjc_theorem.proofs.NarrowProofSpelt.{class_read}
-use Rattle.cjc_theorem.proofs.BytecodeMembers.{read_class}
+use Rattle.cjc_verified_proof.proofs.BytecodeMembers.{read_class}
 use Rattle.cjc_verified_proof.specs.ClassOrder.Classes.Numbers.{class_count}
 use Rattle.cjc_theorem.proofs.ShapeLimited as limited
 use Rattle.cjc_theorem.proofs.ShapeProofPackageNames.{package_named}

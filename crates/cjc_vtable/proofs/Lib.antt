@@ -27,6 +27,8 @@ pub use Rattle.cjc_subset.proofs.RangeWords as RangeWords
 pub use Rattle.cjc_order.proofs.ClassesLaws.Declared as ClassOrderDeclared
 pub use Rattle.cjc_order.proofs.ClassesLaws.Standing as ClassOrderStanding
 pub use Rattle.cjc_order.proofs.SupersLaws.Sets as ClassOrderSets
+pub use Rattle.cjc_subset.proofs.Any as SubsetAny
+pub use Rattle.cjc_subset.proofs.Callees as SubsetCallees
 pub use Rattle.cjc_subset.proofs.Codes as SubsetCodes
 pub use Rattle.cjc_subset.proofs.Fits as SubsetFits
 pub use Rattle.cjc_tokens.proofs.Facts as TokensFacts

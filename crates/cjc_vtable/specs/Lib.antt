@@ -9,4 +9,5 @@ pub mod Meant
 -- Definitions of lower crates, for those above.
 pub mod Fixpoint
 pub mod LowerClassOrder
+pub mod LowerSubset
 pub mod LowerTokens

@@ -6,7 +6,7 @@
 /// What crates above take of bytecode.
 pub mod bytecode {
     pub use cjc_subset::bytecode::{
-        Codes, DecodeError, JInsn, JOp, MethodCode, decode_method, refusal_of,
+        Codes, DecodeError, JInsn, JOp, MethodCode, decode_method, jvm, refusal_of,
     };
 }
 
@@ -17,7 +17,9 @@ pub mod class_order {
 
 /// What crates above take of cjc_subset.
 pub mod subset {
-    pub use cjc_subset::{class_spot, first_broken, is_int_desc, method_spot, names};
+    pub use cjc_subset::{
+        any_works_on_int, class_spot, first_broken, is_int_desc, method_spot, names,
+    };
 }
 
 /// What crates above take of cjc_tokens.

@@ -2,26 +2,29 @@
 use Rattle.std.proofs.Common.{◌≡◌, ◌+◌, ℕ, zero, suc, Bool, true, false, List, [], ◌∷◌, ◌++◌, Some, None, length}
 use Rattle.std.proofs.Common.{slice_get, option_map, refl, sym, ap, subst, ◌∙◌, inl, inr, ⊎_elim}
 use Rattle.std.specs.Prelude.{◌⊎◌}
+use Rattle.std.specs.List.{Contains}
 use Rattle.std.proofs.lemmas.Option.{same_Some, slice_get-map, slice_get_within}
 use Rattle.std.proofs.lemmas.Option.{get_or_from_slice_get}
-use Rattle.cjc_bytes.specs.Format.{Spells}
+use Rattle.cjc_bytes.specs.Format.{Spells, repeated}
 use Rattle.cjc_bytes.proofs.Inverse.{InBytes}
 use Rattle.cjc_classfile.specs.Code.{CodeTree}
 use Rattle.cjc_classfile.specs.declared.tree.ClassTree.{ClassTree}
 use Rattle.cjc_classfile.specs.declared.tree.MethodTree.{MethodTree}
 use Rattle.cjc_code.specs.Cut.{IsCutFrom, cut}
 use Rattle.cjc_code.specs.Instruction.{behind_first, behind_opcode, instruction, is_prefix, is_unknown, opcode_at}
-use Rattle.cjc_code.specs.Instruction.{operands, unless, wide_opcode_at, widened}
+use Rattle.cjc_code.specs.Instruction.{operand, operands, unless, wide_opcode_at, widened}
 use Rattle.cjc_code.specs.Named.{op_of}
-use Rattle.cjc_code.specs.Rules.{IsDecoded, with_names, wrong_type}
-use Rattle.cjc_code.specs.Table.{heads, row, wide}
-use Rattle.cjc_code.specs.Unfit.{has_wrong_type}
+use Rattle.cjc_code.specs.Rules.{IsDecoded, with_names, wrong_type, wrong_values}
+use Rattle.cjc_code.specs.Table.{heads, row, tails, wide}
+use Rattle.cjc_code.specs.Unfit.{has_wrong_type, has_wrong_values}
+use Rattle.cjc_code.specs.declared.table.Operand.TheVariants.{Signed4}
 use Rattle.cjc_code.specs.declared.insn.JInsn.{JInsn}
 use Rattle.cjc_code.proofs.OneCut.{is_cut}
-use Rattle.cjc_code.specs.ReadLaws.Instructions.{IsInstruction, NumbersFit, has_opcode}
+use Rattle.cjc_code.specs.ReadLaws.Instructions.{IsInstruction, NumbersFit, SwitchFits, has_opcode}
 use Rattle.cjc_code.specs.ReadLaws.Members.{AreWords}
 use Rattle.cjc_code.proofs.ReadLaws.Numbers.{Begins, number_fits}
 use Rattle.cjc_code.proofs.ReadLaws.Opcodes.{opcode_fits}
+use Rattle.cjc_code.proofs.ReadLaws.Switches.{IsWide, switch_fits}
 use Rattle.cjc_code.proofs.ReadLaws.Wide.{wide_fits}
 
 front_bytes : (xs ys : List ℕ) → InBytes (xs ++ ys) → InBytes xs
@@ -31,10 +34,6 @@ front_bytes (x ∷ xs) ys h = (h.0, front_bytes xs ys h.1)
 back_bytes : (xs ys : List ℕ) → InBytes (xs ++ ys) → InBytes ys
 back_bytes [] ys h = h
 back_bytes (x ∷ xs) ys h = back_bytes xs ys h.1
-
--- what stands behind the prefix
-abbrev IsWide : ℕ → Type 0
-IsWide m = (os : _) × (wide (row m) ≡ Some os)
 
 opcode_row : (n : ℕ) (op : _) → opcode_at n ≡ Some op → (op.family ≡ (row n).1) × (op.number ≡ n)
     × (op.operands ≡ (row n).0)
@@ -93,7 +92,8 @@ plain_spelt at n op place i bytes ok (
     let opcode : i.opcode ≡ n = sym (ap (λ r. r.opcode) same) ∙ number in
     let ok1 = back_bytes f1 b1 (subst InBytes e1 ok) in
     let ok2 = back_bytes f2 b2 (subst InBytes e2 ok1) in
-    let ok3 = front_bytes f3 b3 (subst InBytes e3 ok2) in (
+    let ok3 = front_bytes f3 b3 (subst InBytes e3 ok2) in
+    let ok4 = front_bytes f4 b4 (subst InBytes e4 (back_bytes f3 b3 (subst InBytes e3 ok2))) in (
       sym (ap (λ r. r.family) same) ∙ kind ∙ ap (λ m. (row m).1) (sym opcode),
       inl (record {
         place = place + length f1 + length f2;
@@ -104,6 +104,11 @@ plain_spelt at n op place i bytes ok (
         spells = subst (λ os. Spells (operands (heads os)) (place + length f1 + length f2) first f3) (heads_are
             ∙ ap (λ m. (row m).0) (sym opcode)) ops;
         is = sym (ap (λ r. r.numbers) same);
+        rest_place = place + length f1 + length f2 + length f3;
+        rest_bytes = f4;
+        rest_ok = ok4;
+        rest_spells = subst (λ os. Spells (repeated (tails os first) (operand Signed4)) (place + length f1 + length f2
+            + length f3) rest f4) (heads_are ∙ ap (λ m. (row m).0) (sym opcode)) rep;
       }),
     )
 
@@ -187,11 +192,10 @@ decoded_instruction t method tree insns is words ok k i e = elim (slice_get (cut
           let same : op_of t.pool r.at r.opcode (row r.opcode).1 r.numbers ≡ i.op =
           sym (ap (λ g. op_of t.pool r.at r.opcode g r.numbers) of_row.0) ∙ is_op in
           let within = slice_get_within (cut tree.bytes).insns k r f in
-          let typed = not_true (has_wrong_type r.family r.numbers) (λ h. is.fit r.at (wrong_type r (
-            k,
-            within,
-            get_or_from_slice_get (cut tree.bytes).insns k r r f,
-          ) h)) in
+          let here : Contains (cut tree.bytes).insns r =
+          (k, within, get_or_from_slice_get (cut tree.bytes).insns k r r f) in
+          let typed = not_true (has_wrong_type r.family r.numbers) (λ h. is.fit r.at (wrong_type r here h)) in
+          let ascends = not_true (has_wrong_values r.family r.numbers) (λ h. is.fit r.at (wrong_values r here h)) in
           record {
             opcode = ap has_opcode (sym same) ∙ opcode_fits r.opcode t.pool r.at r.numbers;
             numbers = subst NumbersFit same (⊎_elim
@@ -199,6 +203,8 @@ decoded_instruction t method tree insns is words ok k i e = elim (slice_get (cut
                 (sym of_row.0) ∙ typed))
                 (λ w. wide_fits r.opcode w.0 w.1 t.pool r.at r.numbers)
                 of_row.1);
+            switch = subst SwitchFits same (switch_fits t.pool r.at r.opcode r.numbers of_row.1
+                (ap (λ g. has_wrong_values g r.numbers) (sym of_row.0) ∙ ascends));
           }
     ] refl (sym (slice_get-map (with_names t.pool) (cut tree.bytes).insns k)
     ∙ sym (ap (λ (xs : List JInsn). slice_get xs k) is.insns_are) ∙ e)

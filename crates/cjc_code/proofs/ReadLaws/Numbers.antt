@@ -6,14 +6,15 @@ use Rattle.std.specs.Int.{w8, w16, cast_signed}
 use Rattle.std.proofs.Math.Facts.{Fits-bits, sfits_to_z}
 use Rattle.std.proofs.lemmas.Bool.{eqb-false, eqb-true, leb-true, ltb-false, ltb-true}
 use Rattle.std.proofs.lemmas.Int.{ints}
-use Rattle.cjc_bytes.specs.Format.{Spells}
+use Rattle.cjc_bytes.specs.Format.{Spells, repeated}
 use Rattle.cjc_bytes.proofs.Inverse.{InBytes, given, inner, number16, number8}
 use Rattle.cjc_classfile.specs.PoolItem.{PoolItem}
 use Rattle.cjc_classfile.specs.PoolItem as items
 use Rattle.cjc_code.specs.Instruction.{operand, operands}
 use Rattle.cjc_code.specs.Named.{int_of, number_of, op_of}
 use Rattle.cjc_code.specs.Numbers as numbers
-use Rattle.cjc_code.specs.Table.{heads, ranges, row}
+use Rattle.cjc_code.specs.Table.{heads, ranges, row, tails}
+use Rattle.cjc_code.specs.declared.table.Operand.TheVariants.{Signed4}
 use Rattle.cjc_code.specs.Unfit.{has_wrong_type}
 use Rattle.cjc_range.specs.Span.{Holds, full, short_range}
 use Rattle.cjc_code.specs.ReadLaws.Instructions.{NumbersFit, is_one_of}
@@ -29,7 +30,7 @@ fit16 : (z : ℤ) → FitsSigned w16 z → Holds full z
 fit16 (pos n) f = let h = f.sfits in record { above = omega (arith, ints); below = omega (arith, ints) }
 fit16 (negsuc n) f = let h = f.sfits in record { above = omega (arith, ints); below = omega (arith, ints) }
 
--- the numbers of an instruction begin with the operands of its opcode
+-- the numbers of an instruction begin with the operands of its opcode, and behind them stand those of a switch
 pub record Begins (m : ℕ) (zs : List ℤ) : Type 0 where
   pub place : ℕ
   pub first : List ℤ
@@ -38,6 +39,10 @@ pub record Begins (m : ℕ) (zs : List ℤ) : Type 0 where
   pub ok : InBytes bytes
   pub spells : Spells (operands (heads (row m).0)) place first bytes
   pub is : zs ≡ first ++ rest
+  pub rest_place : ℕ
+  pub rest_bytes : List ℕ
+  pub rest_ok : InBytes rest_bytes
+  pub rest_spells : Spells (repeated (tails (row m).0 first) (operand Signed4)) rest_place rest rest_bytes
 
 -- the instruction by this opcode has numbers of so many bits
 abbrev Fits : ℕ → Type 0

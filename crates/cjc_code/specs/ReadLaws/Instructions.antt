@@ -1,7 +1,8 @@
 -- What the instructions of a method that was decoded are: their opcodes are those of their kinds, and their numbers
 -- have so many bits.
-use Rattle.std.specs.Prelude.{◌≡◌, ℕ, Bool, true, ◌==◌, List, [], ◌∷◌}
+use Rattle.std.specs.Prelude.{◌≡◌, ◌<◌, ℕ, Bool, true, ◌==◌, int_lt, List, [], ◌∷◌, length, ℤ, pos, ◌+ℤ◌, ◌-ℤ◌}
 use Rattle.std.specs.List.{list_any}
+use Rattle.cjc_code.specs.declared.insn.JCase.{JCase}
 use Rattle.cjc_code.specs.declared.insn.JOp.{JOp}
 use Rattle.cjc_code.specs.declared.insn.JOp.TheVariants as jop
 use Rattle.cjc_code.specs.Jvm as jvm
@@ -35,7 +36,26 @@ NumbersFit (jop.Inc k z) = Holds short_range z
 NumbersFit (jop.NewArray n) = is_one_of n (4 ∷ 5 ∷ 6 ∷ 7 ∷ 8 ∷ 9 ∷ 10 ∷ 11 ∷ []) ≡ true
 NumbersFit _ = Unit {0}
 
+-- the matches of a tableswitch: from the lowest on there is one at least, and the lowest and the highest have 32 bits
+pub record MatchesFit (low : ℤ) (count : ℕ) : Type 0 where
+  pub some : 0 < count
+  pub low_fits : Holds full low
+  pub high_fits : Holds full ((low +ℤ pos count) -ℤ pos 1)
+
+-- the matches of a lookupswitch have 32 bits, and each is greater than the one before
+abbrev pub MatchesAscend : List JCase → Type 0
+MatchesAscend [] = Unit {0}
+MatchesAscend (c ∷ []) = Holds full c.value
+MatchesAscend (c ∷ d ∷ cases) = Holds full c.value × (int_lt c.value d.value ≡ true) × MatchesAscend (d ∷ cases)
+
+-- the matches of a switch
+abbrev pub SwitchFits : JOp → Type 0
+SwitchFits (jop.TableSwitch other low targets) = MatchesFit low (length targets)
+SwitchFits (jop.LookupSwitch other cases) = MatchesAscend cases
+SwitchFits _ = Unit {0}
+
 -- an instruction has an opcode of its kind, and its numbers fit
 pub record IsInstruction (op : JOp) : Type 0 where
   pub opcode : has_opcode op ≡ true
   pub numbers : NumbersFit op
+  pub switch : SwitchFits op

@@ -6,12 +6,13 @@ use Rattle.cjc_capwrite.specs.CapRead.declared.tree.StaticRef.TheVariants as ref
 use Rattle.cjc_capwrite.specs.CapRead.declared.tree.PoolEntry.TheVariants.{Classref, InstanceFieldref}
 use Rattle.cjc_capwrite.specs.CapRead.declared.tree.PoolEntry.TheVariants.{StaticFieldref, StaticMethodref}
 use Rattle.cjc_capwrite.specs.CapRead.declared.tree.PoolEntry.TheVariants.{VirtualMethodref}
-use Rattle.cjc_card_semantics.specs.Script.declared.report.Outcome.{Outcome}
-use Rattle.cjc_card_semantics.specs.Script.declared.report.Outcome.TheVariants.{Stuck}
-use Rattle.cjc_card_semantics.specs.Machine.Worked.{method_at, described, class_with, named, names, alone}
-use Rattle.cjc_card_semantics.specs.Machine.Worked.{script, call}
-use Rattle.cjc_card_semantics.specs.Machine.Loaded.{OfFile, Part}
-use Rattle.cjc_card_semantics.specs.Machine.ByToken.{run}
+use Rattle.cjc_components.specs.LowerScript.declared.report.Outcome.{Outcome}
+use Rattle.cjc_components.specs.LowerScript.declared.report.Outcome.TheVariants.{Stuck}
+use Rattle.cjc_components.specs.LowerCardSemantics.Machine.Worked.{method_at, described, class_with, named, names}
+use Rattle.cjc_components.specs.LowerCardSemantics.Machine.Worked.{alone}
+use Rattle.cjc_components.specs.LowerCardSemantics.Machine.Worked.{script, call}
+use Rattle.cjc_components.specs.LowerCardSemantics.Machine.Loaded.{OfFile, Part}
+use Rattle.cjc_components.specs.LowerCardSemantics.Machine.ByToken.{run}
 
 -- 1 a: gives 2
 -- 5 v: virtual, gives 1

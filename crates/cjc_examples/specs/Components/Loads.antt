@@ -1,15 +1,15 @@
 -- Packages made by hand, loaded as their components say, and run by token.
 use Rattle.std.specs.Prelude.{ℕ, List, [], ◌∷◌, Option, option_map, codes}
 use Rattle.cjc_bytes.specs.Breaks.{Break}
-use Rattle.cjc_card_semantics.specs.Script.declared.script.Script.{Script}
-use Rattle.cjc_card_semantics.specs.Script.declared.report.Report.{Report}
+use Rattle.cjc_components.specs.LowerScript.declared.script.Script.{Script}
+use Rattle.cjc_components.specs.LowerScript.declared.report.Report.{Report}
 use Rattle.cjc_code.specs.ClassFile.declared.tree.ClassTree.{ClassTree}
 use Rattle.cjc_world.specs.Files.{Files}
 use Rattle.cjc_components.specs.LowerJvmSemantics.Worked.{method, class}
-use Rattle.cjc_card_semantics.specs.Machine.Worked.{object}
-use Rattle.cjc_card_semantics.specs.Machine.Worked
+use Rattle.cjc_components.specs.LowerCardSemantics.Machine.Worked.{object}
+use Rattle.cjc_components.specs.LowerCardSemantics.Machine.Worked
 use Rattle.cjc_components.specs.LowerJvmSemantics.Wallet.{wallet_class}
-use Rattle.cjc_card_semantics.specs.Machine.ByToken.{run}
+use Rattle.cjc_components.specs.LowerCardSemantics.Machine.ByToken.{run}
 use Rattle.cjc_components.specs.LowerCheckRules.Complete.{complete}
 use Rattle.cjc_components.specs.Package.{Package, has_applets}
 use Rattle.cjc_components.specs.Components.{components_of}

@@ -17,7 +17,7 @@ use Rattle.cjc_world.specs.Order.{method_order}
 use Rattle.cjc_components.specs.LowerJvmSemantics.Worked.{method, virtual, abstract, class, field}
 use Rattle.cjc_components.specs.LowerJvmSemantics.Wallet.{wallet_class}
 use Rattle.cjc_components.specs.LowerJvmSemantics.Wallet
-use Rattle.cjc_card_semantics.specs.Machine.Worked.{object, exported, tree}
+use Rattle.cjc_components.specs.LowerCardSemantics.Machine.Worked.{object, exported, tree}
 use Rattle.cjc_components.specs.LowerNCode.declared.narrow.NMethod.{NMethod}
 use Rattle.cjc_components.specs.LowerNCode.PoolOrder.{pool_order}
 use Rattle.cjc_components.specs.LowerNarrow.Rows.Selected.{near_fields}

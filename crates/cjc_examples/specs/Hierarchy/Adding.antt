@@ -6,7 +6,7 @@ use Rattle.cjc_world.specs.ExportFile.declared.tree.ExportTree.{ExportTree}
 use Rattle.cjc_world.specs.Files.{Files}
 use Rattle.cjc_world.specs.Added.{added_at}
 use Rattle.cjc_components.specs.LowerJvmSemantics.Worked.{class, field}
-use Rattle.cjc_card_semantics.specs.Machine.Worked.{object, exported_method, tree}
+use Rattle.cjc_components.specs.LowerCardSemantics.Machine.Worked.{object, exported_method, tree}
 use Rattle.cjc_examples.specs.Components.Packages.{files_of}
 use Rattle.cjc_examples.specs.Hierarchy.Drafts.{bodiless, imported, lang}
 

@@ -6,7 +6,7 @@ use Rattle.cjc_world.specs.ExportFile.declared.tree.ExportMethod.{ExportMethod}
 use Rattle.cjc_world.specs.ExportFile.declared.tree.ExportClass.{ExportClass}
 use Rattle.cjc_world.specs.ExportFile.declared.tree.ExportTree.{ExportTree}
 use Rattle.cjc_world.specs.declared.found.Found.{Found}
-use Rattle.cjc_card_semantics.specs.Machine.Worked.{object, exported, tree}
+use Rattle.cjc_components.specs.LowerCardSemantics.Machine.Worked.{object, exported, tree}
 
 -- a method without code
 abbrev pub bodiless : (flags : ℕ) → (name desc : List ℕ) → MethodTree

@@ -9,7 +9,7 @@ use Rattle.cjc_world.specs.Classes.{Class, all_classes}
 use Rattle.cjc_world.specs.Lookup.{find_field, find_method, selected}
 use Rattle.cjc_world.specs.Subtype.{is_subtype}
 use Rattle.cjc_components.specs.LowerJvmSemantics.Worked.{class, field}
-use Rattle.cjc_card_semantics.specs.Machine.Worked.{id, object, exported_method, tree}
+use Rattle.cjc_components.specs.LowerCardSemantics.Machine.Worked.{id, object, exported_method, tree}
 use Rattle.cjc_examples.specs.Components.Packages.{files_of}
 use Rattle.cjc_examples.specs.Hierarchy.Drafts.{bodiless, listed_constant, imported, lang, declared, listed}
 

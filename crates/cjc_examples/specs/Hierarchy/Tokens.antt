@@ -5,7 +5,7 @@ use Rattle.cjc_world.specs.ExportFile.declared.tree.ExportTree.{ExportTree}
 use Rattle.cjc_world.specs.declared.found.Found.{Found}
 use Rattle.cjc_tokens.specs.Tokens.{Assigned, assigned, field_of_token, public_methods_of, package_methods_of}
 use Rattle.cjc_components.specs.LowerJvmSemantics.Worked.{class, field}
-use Rattle.cjc_card_semantics.specs.Machine.Worked.{object, exported_method, tree}
+use Rattle.cjc_components.specs.LowerCardSemantics.Machine.Worked.{object, exported_method, tree}
 use Rattle.cjc_examples.specs.Components.Packages.{files_of}
 use Rattle.cjc_examples.specs.Hierarchy.Drafts.{bodiless, imported, lang}
 

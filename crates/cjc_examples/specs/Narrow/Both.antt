@@ -3,19 +3,19 @@
 use Rattle.std.specs.Prelude.{ℕ, List, [], ◌∷◌, length, map, replicate, Option, Some, true, false, codes}
 use Rattle.cjc_code.specs.ClassFile.declared.tree.ClassTree.{ClassTree}
 use Rattle.cjc_world.specs.ExportFile.declared.tree.ExportTree.{ExportTree}
-use Rattle.cjc_card_semantics.specs.Script.declared.script.Answer.{Answer}
-use Rattle.cjc_card_semantics.specs.Script.declared.script.Entry.{Entry}
-use Rattle.cjc_card_semantics.specs.Script.declared.script.Act.{Act}
-use Rattle.cjc_card_semantics.specs.Script.declared.script.Reply.{Reply}
-use Rattle.cjc_card_semantics.specs.Script.declared.script.Script.{Script}
-use Rattle.cjc_card_semantics.specs.Script.declared.report.Report.{Report}
+use Rattle.cjc_components.specs.LowerScript.declared.script.Answer.{Answer}
+use Rattle.cjc_components.specs.LowerScript.declared.script.Entry.{Entry}
+use Rattle.cjc_components.specs.LowerScript.declared.script.Act.{Act}
+use Rattle.cjc_components.specs.LowerScript.declared.script.Reply.{Reply}
+use Rattle.cjc_components.specs.LowerScript.declared.script.Script.{Script}
+use Rattle.cjc_components.specs.LowerScript.declared.report.Report.{Report}
 use Rattle.cjc_world.specs.declared.image.StaticImage.{StaticImage}
 use Rattle.cjc_world.specs.Files.{Files}
 use Rattle.cjc_components.specs.LowerJvmSemantics.Linked.{Method}
 use Rattle.cjc_components.specs.LowerJvmSemantics.ByName
-use Rattle.cjc_card_semantics.specs.Machine.Loaded.{Part, Loaded}
-use Rattle.cjc_card_semantics.specs.Machine.Worked.{object, lang, tree, exported, exported_method}
-use Rattle.cjc_card_semantics.specs.Machine.ByToken
+use Rattle.cjc_components.specs.LowerCardSemantics.Machine.Loaded.{Part, Loaded}
+use Rattle.cjc_components.specs.LowerCardSemantics.Machine.Worked.{object, lang, tree, exported, exported_method}
+use Rattle.cjc_components.specs.LowerCardSemantics.Machine.ByToken
 use Rattle.cjc_components.specs.LowerNCode.declared.narrow.NMethod.{NMethod}
 use Rattle.cjc_components.specs.LowerNarrow.Rows.Package.{code_of}
 use Rattle.cjc_components.specs.LowerNarrow.Rows.Package

@@ -10,9 +10,10 @@ use Rattle.cjc_capwrite.specs.CapRead.declared.tree.StaticRef.TheVariants as ref
 use Rattle.cjc_capwrite.specs.CapRead.declared.tree.PoolEntry.TheVariants.{Classref, StaticMethodref}
 use Rattle.cjc_world.specs.Files.{Files}
 use Rattle.cjc_components.specs.LowerJvmSemantics.Worked.{method, class}
-use Rattle.cjc_card_semantics.specs.Machine.Worked.{id, method_at, described, class_with, handler_at, no_statics, named}
-use Rattle.cjc_card_semantics.specs.Machine.Worked.{names, object}
-use Rattle.cjc_card_semantics.specs.Machine.Loaded.{OfFile, Part, Loaded}
+use Rattle.cjc_components.specs.LowerCardSemantics.Machine.Worked.{id, method_at, described, class_with, handler_at}
+use Rattle.cjc_components.specs.LowerCardSemantics.Machine.Worked.{no_statics, named}
+use Rattle.cjc_components.specs.LowerCardSemantics.Machine.Worked.{names, object}
+use Rattle.cjc_components.specs.LowerCardSemantics.Machine.Loaded.{OfFile, Part, Loaded}
 use Rattle.cjc_examples.specs.Narrow.Both.{over, loaded}
 
 -- ---- class files

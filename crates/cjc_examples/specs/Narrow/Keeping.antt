@@ -7,17 +7,18 @@ use Rattle.cjc_code.specs.ClassFile.PoolItem as items
 use Rattle.cjc_capwrite.specs.CapRead.declared.tree.ClassRef.TheVariants.{Outside}
 use Rattle.cjc_capwrite.specs.CapRead.declared.tree.StaticRef.TheVariants as refs
 use Rattle.cjc_capwrite.specs.CapRead.declared.tree.PoolEntry.TheVariants.{StaticFieldref}
-use Rattle.cjc_card_semantics.specs.Script.declared.value.Value.TheVariants.{Num, Null, Obj}
-use Rattle.cjc_card_semantics.specs.Script.declared.report.FieldValue.{FieldValue}
-use Rattle.cjc_card_semantics.specs.Script.declared.report.Note.{Note}
-use Rattle.cjc_card_semantics.specs.Script.declared.report.Outcome.{Outcome}
-use Rattle.cjc_card_semantics.specs.Script.declared.report.Report.{Report}
-use Rattle.cjc_card_semantics.specs.Script.declared.report.Thing.TheVariants.{Array}
+use Rattle.cjc_components.specs.LowerScript.declared.value.Value.TheVariants.{Num, Null, Obj}
+use Rattle.cjc_components.specs.LowerScript.declared.report.FieldValue.{FieldValue}
+use Rattle.cjc_components.specs.LowerScript.declared.report.Note.{Note}
+use Rattle.cjc_components.specs.LowerScript.declared.report.Outcome.{Outcome}
+use Rattle.cjc_components.specs.LowerScript.declared.report.Report.{Report}
+use Rattle.cjc_components.specs.LowerScript.declared.report.Thing.TheVariants.{Array}
 use Rattle.cjc_world.specs.declared.image.StaticImage.{StaticImage}
 use Rattle.cjc_world.specs.Files.{Files}
 use Rattle.cjc_components.specs.LowerJvmSemantics.Worked.{method, class, field}
-use Rattle.cjc_card_semantics.specs.Machine.Worked.{id, method_at, described, class_with, named, names, object}
-use Rattle.cjc_card_semantics.specs.Machine.Loaded.{OfFile, Part, Loaded}
+use Rattle.cjc_components.specs.LowerCardSemantics.Machine.Worked.{id, method_at, described, class_with, named, names}
+use Rattle.cjc_components.specs.LowerCardSemantics.Machine.Worked.{object}
+use Rattle.cjc_components.specs.LowerCardSemantics.Machine.Loaded.{OfFile, Part, Loaded}
 use Rattle.cjc_examples.specs.Narrow.Both.{over, loaded}
 
 -- a field of p/T

@@ -6,10 +6,10 @@ use Rattle.cjc_capwrite.specs.CapRead.declared.tree.ClassRef.TheVariants.{Inside
 use Rattle.cjc_capwrite.specs.CapRead.declared.tree.StaticRef.TheVariants as refs
 use Rattle.cjc_world.specs.Files.{Files}
 use Rattle.cjc_components.specs.LowerJvmSemantics.OnePackage.{method_by}
-use Rattle.cjc_card_semantics.specs.Machine.Loaded.{Loaded}
-use Rattle.cjc_card_semantics.specs.Machine.Classes.{Own}
-use Rattle.cjc_card_semantics.specs.Machine.Dispatch.{Open}
-use Rattle.cjc_card_semantics.specs.Machine.Operations.{Outer}
+use Rattle.cjc_components.specs.LowerCardSemantics.Machine.Loaded.{Loaded}
+use Rattle.cjc_components.specs.LowerCardSemantics.Machine.Classes.{Own}
+use Rattle.cjc_components.specs.LowerCardSemantics.Machine.Dispatch.{Open}
+use Rattle.cjc_components.specs.LowerCardSemantics.Machine.Operations.{Outer}
 use Rattle.cjc_components.specs.LowerNCode.declared.narrow.NMethod.{NMethod}
 use Rattle.cjc_components.specs.LowerNCode.declared.narrow.PoolKey.{PoolKey}
 use Rattle.cjc_components.specs.LowerNCode.PoolOrder.{pool_order, same_key}

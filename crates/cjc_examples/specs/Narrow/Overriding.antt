@@ -8,8 +8,10 @@ use Rattle.cjc_capwrite.specs.CapRead.declared.tree.PoolEntry.TheVariants.{Class
 use Rattle.cjc_capwrite.specs.CapRead.declared.tree.PoolEntry.TheVariants.{StaticMethodref}
 use Rattle.cjc_world.specs.Files.{Files}
 use Rattle.cjc_components.specs.LowerJvmSemantics.Worked.{method, virtual, class}
-use Rattle.cjc_card_semantics.specs.Machine.Worked.{id, method_at, described, class_with, no_statics, named, names}
-use Rattle.cjc_card_semantics.specs.Machine.Loaded.{OfFile, Part, Loaded}
+use Rattle.cjc_components.specs.LowerCardSemantics.Machine.Worked.{id, method_at, described, class_with, no_statics}
+use Rattle.cjc_components.specs.LowerCardSemantics.Machine.Worked.{named}
+use Rattle.cjc_components.specs.LowerCardSemantics.Machine.Worked.{names}
+use Rattle.cjc_components.specs.LowerCardSemantics.Machine.Loaded.{OfFile, Part, Loaded}
 use Rattle.cjc_examples.specs.Narrow.Both.{over, loaded}
 
 -- the constructor calls that of q/A; a gives 7; make makes a B; k gives b of a B

@@ -7,9 +7,11 @@ use Rattle.cjc_capwrite.specs.CapRead.declared.tree.ClassRef.TheVariants.{Inside
 use Rattle.cjc_capwrite.specs.CapRead.declared.tree.PoolEntry.TheVariants.{Classref}
 use Rattle.cjc_world.specs.Files.{Files}
 use Rattle.cjc_components.specs.LowerJvmSemantics.Worked.{abstract, method, virtual, class}
-use Rattle.cjc_card_semantics.specs.Machine.Worked.{id, method_at, described, class_with, no_statics, named, names}
-use Rattle.cjc_card_semantics.specs.Machine.Worked.{object}
-use Rattle.cjc_card_semantics.specs.Machine.Loaded.{OfFile, Part, Loaded}
+use Rattle.cjc_components.specs.LowerCardSemantics.Machine.Worked.{id, method_at, described, class_with, no_statics}
+use Rattle.cjc_components.specs.LowerCardSemantics.Machine.Worked.{named}
+use Rattle.cjc_components.specs.LowerCardSemantics.Machine.Worked.{names}
+use Rattle.cjc_components.specs.LowerCardSemantics.Machine.Worked.{object}
+use Rattle.cjc_components.specs.LowerCardSemantics.Machine.Loaded.{OfFile, Part, Loaded}
 use Rattle.cjc_examples.specs.Narrow.Both.{over, loaded}
 
 -- an interface with v

@@ -33,7 +33,7 @@ fn order_break<'w>(world: &'w World<'_>, member: Found, overtaken: Option<u32>) 
     broken(true, method_spot(world, member, offset), 311)
 }
 
-/// Rule 415 at a method.
+/// Rule 415 at a method. The file of its class is asked for only where it is broken.
 fn length_break<'w>(world: &'w World<'_>, member: Found, widest: u32) -> Option<Break<'w>>
     requires { IsOwn world.now member }
     ensures { (p : Package) (c : Class) → p.files ≡ world.now → class_at (all_classes world.now) member.imported
@@ -41,7 +41,10 @@ fn length_break<'w>(world: &'w World<'_>, member: Found, widest: u32) -> Option<
         → IsFirstOf (at (nat_lt 32767 widest) (method_spot p c member (method_in (all_classes world.now) c
         member.member) 0) 415) (option_map break_of result) }
 {
-    broken(widest > MOST_BYTES, method_spot(world, member, 0), 415)
+    if widest <= MOST_BYTES {
+        return None;
+    }
+    broken(true, method_spot(world, member, 0), 415)
 }
 
 /// The first of both at a method.

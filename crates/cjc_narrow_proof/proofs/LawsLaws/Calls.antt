@@ -13,10 +13,10 @@ use Rattle.cjc_jvm_semantics.specs.OnePackage.{ResolvedMember, method_hit}
 use Rattle.cjc_narrow_proof.specs.Laws.Calls.{CallFits}
 use Rattle.cjc_narrow_proof.specs.Laws.Unbroken.{IsInsnOf, IsUnbroken}
 use Rattle.cjc_narrow_proof.proofs.LawsLaws.Instructions.{op_there}
-use Rattle.cjc_subset.specs.Members.{hit, hit_of}
-use Rattle.cjc_subset.specs.Members as subset
-use Rattle.cjc_subset.specs.Names.{is_hidden, is_other_kind, is_unfit_call, is_unfit_class, is_unfit_method}
-use Rattle.cjc_subset.specs.Names.{names_unfit}
+use Rattle.cjc_vtable.specs.LowerSubset.Members.{hit, hit_of}
+use Rattle.cjc_vtable.specs.LowerSubset.Members as subset
+use Rattle.cjc_vtable.specs.LowerSubset.Names.{is_hidden, is_other_kind, is_unfit_call, is_unfit_class, is_unfit_method}
+use Rattle.cjc_vtable.specs.LowerSubset.Names.{names_unfit}
 use Rattle.cjc_vtable.proofs.Filed.{at-number}
 use Rattle.cjc_vtable.proofs.SlotNames.{position-at}
 use Rattle.cjc_world.specs.declared.found.Found.{Found}

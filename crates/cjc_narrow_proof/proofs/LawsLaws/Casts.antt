@@ -20,9 +20,9 @@ use Rattle.cjc_narrow_proof.proofs.LawsLaws.WordTypes.{by_letter}
 use Rattle.cjc_narrow_proof.specs.Runs.Types.{IsThere, of_class, of_numbers, of_references}
 use Rattle.cjc_script.specs.Sorts.{Booleans, Bytes, Ints, OfClass, OfNumbers, OfReferences, Shape, Shorts, array_by}
 use Rattle.cjc_script.specs.Sorts.{shape_named}
-use Rattle.cjc_subset.specs.Members.{is_descriptor}
-use Rattle.cjc_subset.specs.Names.{is_name_missing, names_missing}
-use Rattle.cjc_subset.specs.Types.{is_unsupported_element, is_unsupported_name, names_unsupported}
+use Rattle.cjc_vtable.specs.LowerSubset.Members.{is_descriptor}
+use Rattle.cjc_vtable.specs.LowerSubset.Names.{is_name_missing, names_missing}
+use Rattle.cjc_vtable.specs.LowerSubset.Types.{is_unsupported_element, is_unsupported_name, names_unsupported}
 use Rattle.cjc_narrow_proof.proofs.TablesLaws.Spelt.{class_read}
 use Rattle.cjc_world.specs.Classes.{Class, all_classes}
 use Rattle.cjc_world.specs.Files.{Files}

@@ -14,10 +14,11 @@ use Rattle.cjc_code.specs.ClassFile.declared.tree.ClassTree.{ClassTree}
 use Rattle.cjc_code.specs.ClassFile.declared.tree.MethodTree.{MethodTree}
 use Rattle.cjc_code.specs.declared.insn.JInsn.{JInsn}
 use Rattle.cjc_code.specs.declared.method_code.MethodCode.{MethodCode}
-use Rattle.cjc_subset.specs.Members.{is_array}
-use Rattle.cjc_subset.specs.Names.{catch_breaks, catches_missing, catches_of, code_breaks, insn_breaks, method_breaks}
-use Rattle.cjc_subset.specs.Names.{name_breaks, names_missing, names_other_kind, names_unfit, names_unfound}
-use Rattle.cjc_subset.specs.Places.{at_method, of_class, of_method}
+use Rattle.cjc_vtable.specs.LowerSubset.Members.{is_array}
+use Rattle.cjc_vtable.specs.LowerSubset.Names.{catch_breaks, catches_missing, catches_of, code_breaks, insn_breaks}
+use Rattle.cjc_vtable.specs.LowerSubset.Names.{method_breaks}
+use Rattle.cjc_vtable.specs.LowerSubset.Names.{name_breaks, names_missing, names_other_kind, names_unfit, names_unfound}
+use Rattle.cjc_vtable.specs.LowerSubset.Places.{at_method, of_class, of_method}
 use Rattle.cjc_types.specs.Tables.{IsMethodOf}
 use Rattle.cjc_world.specs.Classes.{Class, all_classes, class_named}
 use Rattle.cjc_world.specs.Files.{Files}

@@ -21,13 +21,16 @@ use Rattle.cjc_code.specs.declared.method_code.MethodCode.{MethodCode}
 use Rattle.cjc_jvm_semantics.specs.OnePackage.{is_made, made_of, object_fields}
 use Rattle.cjc_narrow_proof.specs.Laws.Unbroken.{IsInsnOf, IsUnbroken}
 use Rattle.cjc_narrow_proof.proofs.LawsLaws.Handlers.{class_there, entry_clean, insn_clean}
-use Rattle.cjc_subset.proofs.Callees.{method_unfound}
-use Rattle.cjc_subset.specs.Checks.{check_breaks, class_breaks, code_breaks, insn_breaks, list_breaks, names_variable}
-use Rattle.cjc_subset.specs.Members.{is_array, is_descriptor}
-use Rattle.cjc_subset.specs.Names.{is_abstract_of, is_member_missing, is_name_missing, is_not_found, is_unfound}
-use Rattle.cjc_subset.specs.Names.{is_unfit_new, names_missing, names_other_kind, names_unfit, names_unfound}
-use Rattle.cjc_subset.specs.Places.{at_method, of_class, of_method}
-use Rattle.cjc_subset.specs.Types.{names_unsupported, names_int}
+use Rattle.cjc_vtable.proofs.SubsetCallees.{method_unfound}
+use Rattle.cjc_vtable.specs.LowerSubset.Checks.{check_breaks, class_breaks, code_breaks, insn_breaks, list_breaks}
+use Rattle.cjc_vtable.specs.LowerSubset.Checks.{names_variable}
+use Rattle.cjc_vtable.specs.LowerSubset.Members.{is_array, is_descriptor}
+use Rattle.cjc_vtable.specs.LowerSubset.Names.{is_abstract_of, is_member_missing, is_name_missing, is_not_found}
+use Rattle.cjc_vtable.specs.LowerSubset.Names.{is_unfound}
+use Rattle.cjc_vtable.specs.LowerSubset.Names.{is_unfit_new, names_missing, names_other_kind, names_unfit}
+use Rattle.cjc_vtable.specs.LowerSubset.Names.{names_unfound}
+use Rattle.cjc_vtable.specs.LowerSubset.Places.{at_method, of_class, of_method}
+use Rattle.cjc_vtable.specs.LowerSubset.Types.{names_unsupported, names_int}
 use Rattle.cjc_types.specs.Tables.{IsMethodOf}
 use Rattle.cjc_world.specs.declared.found.Found.{Found}
 use Rattle.cjc_world.specs.Classes.{Class, all_classes, class_named}

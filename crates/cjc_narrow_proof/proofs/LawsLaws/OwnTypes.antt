@@ -18,12 +18,12 @@ use Rattle.cjc_narrow_proof.specs.Laws.Unbroken.{IsInsnOf, IsUnbroken}
 use Rattle.cjc_narrow_proof.proofs.LawsLaws.Instructions.{op_fit}
 use Rattle.cjc_narrow_proof.proofs.LawsLaws.WordTypes.{word_desc}
 use Rattle.cjc_narrow_proof.proofs.SelectedLaws.IntFree.{code_free, op_free, own_desc}
-use Rattle.cjc_subset.specs.Checks.{check_breaks, method_breaks}
-use Rattle.cjc_subset.specs.Flags.{is_unfit_method}
-use Rattle.cjc_subset.specs.Limits.{has_deep_stack, has_many_locals}
-use Rattle.cjc_subset.specs.Places.{at_method}
-use Rattle.cjc_subset.specs.Ints.{works_on_int}
-use Rattle.cjc_subset.specs.Types.{is_unsupported_desc, is_unsupported_name, is_int_desc, names_unsupported}
+use Rattle.cjc_vtable.specs.LowerSubset.Checks.{check_breaks, method_breaks}
+use Rattle.cjc_vtable.specs.LowerSubset.Flags.{is_unfit_method}
+use Rattle.cjc_vtable.specs.LowerSubset.Limits.{has_deep_stack, has_many_locals}
+use Rattle.cjc_vtable.specs.LowerSubset.Places.{at_method}
+use Rattle.cjc_vtable.specs.LowerSubset.Ints.{works_on_int}
+use Rattle.cjc_vtable.specs.LowerSubset.Types.{is_unsupported_desc, is_unsupported_name, is_int_desc, names_unsupported}
 use Rattle.cjc_narrow_proof.specs.Tables.Calls.{IsWordDesc}
 use Rattle.cjc_types.specs.Tables.{IsMethodOf}
 use Rattle.cjc_vtable.specs.Kept.{IsUnbroken as HasNone}

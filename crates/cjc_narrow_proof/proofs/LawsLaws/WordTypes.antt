@@ -16,9 +16,11 @@ use Rattle.cjc_script.specs.Sorts.{Boolean, Byte, Int, NoValue, Reference, Short
 use Rattle.cjc_script.specs.Sorts.{shape_named, sort_by, sort_of}
 use Rattle.cjc_narrow_proof.specs.Selection.Objects.{has_values}
 use Rattle.cjc_narrow_proof.specs.Selection.Rows.{is_word_sort}
-use Rattle.cjc_subset.specs.Types.{is_any_unsupported, is_any_int, is_unsupported_desc, is_unsupported_element}
-use Rattle.cjc_subset.specs.Types.{is_unsupported_name, is_unsupported_part, is_int, is_int_desc, is_int_name}
-use Rattle.cjc_subset.specs.Types.{is_int_part, is_other}
+use Rattle.cjc_vtable.specs.LowerSubset.Types.{is_any_unsupported, is_any_int, is_unsupported_desc}
+use Rattle.cjc_vtable.specs.LowerSubset.Types.{is_unsupported_element}
+use Rattle.cjc_vtable.specs.LowerSubset.Types.{is_unsupported_name, is_unsupported_part, is_int, is_int_desc}
+use Rattle.cjc_vtable.specs.LowerSubset.Types.{is_int_name}
+use Rattle.cjc_vtable.specs.LowerSubset.Types.{is_int_part, is_other}
 use Rattle.cjc_narrow_proof.specs.Tables.Calls.{IsWordDesc, is_word_result}
 use Rattle.cjc_narrow_proof.proofs.TablesLaws.Spelt.{class_read}
 use Rattle.cjc_types.specs.Types.{no_parts, parts, parts_or_none}

@@ -19,12 +19,14 @@ use Rattle.cjc_code.specs.declared.insn.JOp.{JOp}
 use Rattle.cjc_code.specs.declared.insn.JOp.TheVariants as jop
 use Rattle.cjc_code.specs.declared.method_code.MethodCode.{MethodCode}
 use Rattle.cjc_narrow_proof.specs.Laws.Unbroken.{IsInsnOf}
-use Rattle.cjc_subset.proofs.Any.{none_passes}
-use Rattle.cjc_subset.specs.Checks.{check_breaks, class_breaks, code_breaks, field_breaks, insn_breaks, list_breaks}
-use Rattle.cjc_subset.specs.Checks.{method_breaks, own_breaks}
-use Rattle.cjc_subset.specs.Ints.{any_works_on_int, code_works_on_int, method_there, method_works_on_int, works_on_int}
-use Rattle.cjc_subset.specs.Places.{of_class, of_method}
-use Rattle.cjc_subset.specs.Types.{is_int_desc, is_int_name, names_int}
+use Rattle.cjc_vtable.proofs.SubsetAny.{none_passes}
+use Rattle.cjc_vtable.specs.LowerSubset.Checks.{check_breaks, class_breaks, code_breaks, field_breaks, insn_breaks}
+use Rattle.cjc_vtable.specs.LowerSubset.Checks.{list_breaks}
+use Rattle.cjc_vtable.specs.LowerSubset.Checks.{method_breaks, own_breaks}
+use Rattle.cjc_vtable.specs.LowerSubset.Ints.{any_works_on_int, code_works_on_int, method_there, method_works_on_int}
+use Rattle.cjc_vtable.specs.LowerSubset.Ints.{works_on_int}
+use Rattle.cjc_vtable.specs.LowerSubset.Places.{of_class, of_method}
+use Rattle.cjc_vtable.specs.LowerSubset.Types.{is_int_desc, is_int_name, names_int}
 use Rattle.cjc_types.specs.Tables.{IsMethodOf}
 use Rattle.cjc_world.specs.Files.{Files}
 

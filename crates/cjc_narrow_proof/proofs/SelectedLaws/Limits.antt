@@ -11,9 +11,9 @@ use Rattle.cjc_code.specs.ClassFile.Code.{CodeTree}
 use Rattle.cjc_code.specs.ClassFile.declared.tree.ClassTree.{ClassTree}
 use Rattle.cjc_code.specs.ClassFile.declared.tree.MethodTree.{MethodTree}
 use Rattle.cjc_code.specs.declared.method_code.MethodCode.{MethodCode}
-use Rattle.cjc_subset.specs.Checks.{check_breaks, class_breaks, code_breaks, list_breaks, method_breaks}
-use Rattle.cjc_subset.specs.Checks.{field_breaks, own_breaks}
-use Rattle.cjc_subset.specs.Limits.{has_deep_stack, has_many_locals}
+use Rattle.cjc_vtable.specs.LowerSubset.Checks.{check_breaks, class_breaks, code_breaks, list_breaks, method_breaks}
+use Rattle.cjc_vtable.specs.LowerSubset.Checks.{field_breaks, own_breaks}
+use Rattle.cjc_vtable.specs.LowerSubset.Limits.{has_deep_stack, has_many_locals}
 use Rattle.cjc_types.specs.Tables.{IsMethodOf}
 use Rattle.cjc_world.specs.Files.{Files}
 

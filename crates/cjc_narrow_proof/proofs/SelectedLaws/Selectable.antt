@@ -25,8 +25,8 @@ use Rattle.cjc_narrow.specs.Rows.Resolved.{argument_words}
 use Rattle.cjc_narrow.specs.Written.Operands.{CanBeSaid, IsByte}
 use Rattle.cjc_narrow.specs.Written.Rows.{has_rows}
 use Rattle.cjc_narrow.specs.Select.Select.{IsSelectable}
-use Rattle.cjc_subset.specs.Ints.{works_on_int}
-use Rattle.cjc_subset.specs.Types.{is_int_desc}
+use Rattle.cjc_vtable.specs.LowerSubset.Ints.{works_on_int}
+use Rattle.cjc_vtable.specs.LowerSubset.Types.{is_int_desc}
 use Rattle.cjc_types.specs.declared.cell.Cell.{Cell}
 use Rattle.cjc_types.specs.declared.state.Stack.{Stack}
 use Rattle.cjc_types.specs.declared.state.Stack.TheVariants.{Cells, Clash}

@@ -30,7 +30,7 @@ use Rattle.cjc_card_semantics.specs.Bytecode.Arguments.{width, widths}
 use Rattle.cjc_world.specs.Files.{Files}
 use Rattle.cjc_narrow.specs.Rows.Resolved.{parameter_words}
 use Rattle.cjc_ncode.specs.Written.{nargs_of, words_by}
-use Rattle.cjc_subset.specs.Types.{is_any_int, is_int, is_int_desc, is_int_name, is_int_part}
+use Rattle.cjc_vtable.specs.LowerSubset.Types.{is_any_int, is_int, is_int_desc, is_int_name, is_int_part}
 use Rattle.cjc_types.specs.Names.{In}
 use Rattle.cjc_types.specs.Tables.{IsMethodOf}
 use Rattle.cjc_types.specs.Types.{no_parts, parts, parts_or_none}

@@ -11,10 +11,10 @@ use Rattle.cjc_code.specs.declared.insn.JInsn.{JInsn}
 use Rattle.cjc_code.specs.declared.insn.JOp.{JOp}
 use Rattle.cjc_code.specs.declared.method_code.MethodCode.{MethodCode}
 use Rattle.cjc_world.specs.ExportFile.declared.tree.ExportClass.{ExportClass}
-use Rattle.cjc_subset.specs.Checks.{check_breaks}
-use Rattle.cjc_subset.specs.Ints.{any_works_on_int}
-use Rattle.cjc_subset.specs.Members.{imports}
-use Rattle.cjc_subset.specs.Names.{name_breaks}
+use Rattle.cjc_vtable.specs.LowerSubset.Checks.{check_breaks}
+use Rattle.cjc_vtable.specs.LowerSubset.Ints.{any_works_on_int}
+use Rattle.cjc_vtable.specs.LowerSubset.Members.{imports}
+use Rattle.cjc_vtable.specs.LowerSubset.Names.{name_breaks}
 use Rattle.cjc_types.specs.Tables.{IsMethodOf}
 use Rattle.cjc_world.specs.Files.{Files}
 use Rattle.cjc_world.specs.Rules.{breaks}

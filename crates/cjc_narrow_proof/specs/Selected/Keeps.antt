@@ -9,8 +9,8 @@ use Rattle.cjc_code.specs.ClassFile.declared.tree.MethodTree.{MethodTree}
 use Rattle.cjc_code.specs.declared.method_code.MethodCode.{MethodCode}
 use Rattle.cjc_narrow.specs.Rows.Package.{flags_of}
 use Rattle.cjc_narrow.specs.Rows.Resolved.{method_found}
-use Rattle.cjc_subset.specs.Checks.{check_breaks}
-use Rattle.cjc_subset.specs.Ints.{code_works_on_int}
+use Rattle.cjc_vtable.specs.LowerSubset.Checks.{check_breaks}
+use Rattle.cjc_vtable.specs.LowerSubset.Ints.{code_works_on_int}
 use Rattle.cjc_types.specs.declared.state.State.{State}
 use Rattle.cjc_types.specs.Flow.{Body}
 use Rattle.cjc_types.specs.Tables.{Breach}

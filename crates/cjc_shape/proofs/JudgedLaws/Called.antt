@@ -18,7 +18,7 @@ use Rattle.cjc_methods.specs.JvmSemantics.OnePackage.{method_hit}
 use Rattle.cjc_methods.specs.Narrow.Rows.Resolved.{by_owner, resolved_method}
 use Rattle.cjc_methods.specs.LowerPool.Pool.{token_of}
 use Rattle.cjc_methods.specs.Subset.Members.{ResolvedMember, hit, hit_of, is_array, is_initialiser}
-use Rattle.cjc_narrow_proof.proofs.SubsetCallees.{method_unfound}
+use Rattle.cjc_methods.proofs.SubsetCallees.{method_unfound}
 use Rattle.cjc_methods.specs.Subset.Names.{code_breaks, insn_breaks, is_hidden, is_name_missing}
 use Rattle.cjc_methods.specs.Subset.Names.{is_not_found, is_unfit_call, is_unfit_class}
 use Rattle.cjc_methods.specs.Subset.Names.{is_unfit_method}

@@ -15,12 +15,12 @@ use cjc_methods::bytes::{Fault, NoMemory, Row, RulePlace, answer, broken};
 use cjc_methods::class_order::classes::class_order;
 use cjc_methods::export_file::{ExportTree, pool_size};
 use cjc_methods::layouts::{Methods, lay_out, methods_are_of_a_package};
+use cjc_methods::subset::any_works_on_int;
 use cjc_methods::tokens::Tokens;
 use cjc_methods::world::{Found, StaticImage, World};
 use cjc_methods::{
     method_order, methods_are_own, methods_can_be_laid_out, narrow_codes, test_words,
 };
-use cjc_narrow_proof::subset::any_works_on_int;
 use std::alloc::Global;
 
 /// A package whose methods are laid out.

@@ -8,7 +8,7 @@ use Rattle.cjc_shape_proof.specs.LowerJudge.declared.judged.Judged.{Judged}
 use Rattle.cjc_token_proof.specs.List.Listed.{ListTree}
 use Rattle.cjc_shape_proof.specs.LowerShape.Prepared.{IsSound}
 use Rattle.cjc_shape_proof.specs.WorldProof.Files.{ExportsAreSound}
-use Rattle.cjc_subset.specs.Checks.{check_breaks}
+use Rattle.cjc_token_proof.specs.Subset.Checks.{check_breaks}
 use Rattle.cjc_theorem.proofs.FairExports.Listed.{names}
 use Rattle.cjc_theorem.proofs.SoundRuns.Placed.{sound_package}
 use Rattle.cjc_token_proof.specs.Tables.Sound.{IsSound as IsSoundPackage}

@@ -7,7 +7,7 @@ use Rattle.cjc_world.specs.ExportFile.declared.tree.ExportClass.{ExportClass}
 use Rattle.cjc_theorem.specs.FairExports.Fair.{world_of}
 use Rattle.cjc_theorem.proofs.FairWriting.Worlds.{numbered_at, numbered_some}
 use Rattle.cjc_token_proof.proofs.WorldProofRules.{listed_abroad}
-use Rattle.cjc_subset.specs.Members.{imports}
+use Rattle.cjc_token_proof.specs.Subset.Members.{imports}
 use Rattle.cjc_token_proof.proofs.TablesLaws.Clean.{has_named, own_name}
 use Rattle.cjc_token_proof.proofs.TablesLaws.Filed.{import_filed, import_in}
 use Rattle.cjc_token_proof.specs.Tables.Sound.{IsSound}

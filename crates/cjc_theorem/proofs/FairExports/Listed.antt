@@ -14,15 +14,16 @@ use Rattle.cjc_bytes.specs.declared.settings.Settings.{Settings}
 use Rattle.cjc_bytes.proofs.Lists.{name_is, none_left, none_right, never_none}
 use Rattle.cjc_bytes.proofs.Bools.{both_front, both_back, not_false}
 use Rattle.cjc_bytes.proofs.BrokenRules.{not_broken, each_at}
-use Rattle.cjc_code.specs.declared.method_code.MethodCode.{MethodCode}
+use Rattle.cjc_components.specs.Bytecode.declared.method_code.MethodCode.{MethodCode}
 use Rattle.cjc_world.specs.ExportFile.declared.tree.ExportClass.{ExportClass}
 use Rattle.cjc_world.specs.ExportFile.declared.tree.ExportMethod.{ExportMethod}
 use Rattle.cjc_world.specs.ExportFile.declared.tree.ExportTree.{ExportTree}
 use Rattle.cjc_shape_proof.specs.Written.Converted.{ExportsArePlain}
-use Rattle.cjc_subset.specs.Checks.{check_breaks, list_breaks}
-use Rattle.cjc_subset.specs.Exports.{export_breaks, export_file_of, is_class_name, is_name, is_of_objects}
-use Rattle.cjc_subset.specs.Exports.{is_unfit_listed, listed_breaks, listed_class_breaks, listed_method_breaks}
-use Rattle.cjc_subset.specs.Members.{imports, is_initialiser}
+use Rattle.cjc_token_proof.specs.Subset.Checks.{check_breaks, list_breaks}
+use Rattle.cjc_token_proof.specs.Subset.Exports.{export_breaks, export_file_of, is_class_name, is_name, is_of_objects}
+use Rattle.cjc_token_proof.specs.Subset.Exports.{is_unfit_listed, listed_breaks, listed_class_breaks}
+use Rattle.cjc_token_proof.specs.Subset.Exports.{listed_method_breaks}
+use Rattle.cjc_token_proof.specs.Subset.Members.{imports, is_initialiser}
 use Rattle.cjc_tokens.specs.Members.{is_exposed}
 use Rattle.cjc_vtable.proofs.Filed.{get-has, has-get, of-imports}
 use Rattle.cjc_world.specs.Files.{Files}

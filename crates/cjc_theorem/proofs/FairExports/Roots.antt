@@ -15,7 +15,7 @@ use Rattle.cjc_world.specs.ExportFile.declared.tree.ExportTree.{ExportTree}
 use Rattle.cjc_theorem.proofs.FairExports.Alone.{acyclic, found}
 use Rattle.cjc_token_proof.proofs.WorldProofRules.{only_object, super_class}
 use Rattle.cjc_shape_proof.specs.WorldProof.Files.{ExportsAreSound}
-use Rattle.cjc_subset.specs.Members.{imports}
+use Rattle.cjc_token_proof.specs.Subset.Members.{imports}
 use Rattle.cjc_token_proof.proofs.TablesLaws.Clean.{language}
 use Rattle.cjc_token_proof.proofs.TablesLaws.Filed.{has-back, has-front}
 use Rattle.cjc_token_proof.proofs.TablesLaws.Rooted.{import_root}

@@ -6,7 +6,7 @@ use Rattle.std.specs.Prelude.{◌⊎◌, not, ◌&&◌, ◌||◌, Some, option_m
 use Rattle.std.proofs.lemmas.Option.{slice_get-map}
 use Rattle.cjc_bytes.specs.AccessFlags.{is_interface, is_private, is_static}
 use Rattle.cjc_bytes.specs.declared.settings.Settings.{Settings}
-use Rattle.cjc_code.specs.declared.method_code.MethodCode.{MethodCode}
+use Rattle.cjc_components.specs.Bytecode.declared.method_code.MethodCode.{MethodCode}
 use Rattle.cjc_token_proof.proofs.WorldProofOwn.{mapped_at}
 use Rattle.cjc_components.specs.Package.{Package, world}
 use Rattle.cjc_world.specs.ExportFile.declared.tree.ExportClass.{ExportClass}
@@ -17,7 +17,7 @@ use Rattle.cjc_theorem.proofs.FairExports.Listed.{exports_plain, root_bare}
 use Rattle.cjc_theorem.proofs.FairExports.Roots.{below_root, object_there}
 use Rattle.cjc_theorem.proofs.AlikeLaws.VirtualCalls.MethodKinds.{in_get}
 use Rattle.cjc_token_proof.proofs.WorldProofRules.{listed_abroad}
-use Rattle.cjc_subset.specs.Checks.{check_breaks}
+use Rattle.cjc_token_proof.specs.Subset.Checks.{check_breaks}
 use Rattle.cjc_token_proof.specs.Tables.Sound.{IsSound}
 use Rattle.cjc_tokens.specs.Members.{In, Signature, all_methods, first_of, has, is_initialiser, later, same}
 use Rattle.cjc_tokens.specs.Members.{signature_of}

@@ -11,7 +11,7 @@ use Rattle.cjc_bytes.proofs.Plain.{no_both}
 use Rattle.cjc_world.specs.ExportFile.declared.tree.ExportClass.{ExportClass}
 use Rattle.cjc_world.specs.ExportFile.declared.tree.ExportTree.{ExportTree}
 use Rattle.cjc_theorem.specs.FairExports.Fair.{ExportsAreFair, world_of}
-use Rattle.cjc_subset.specs.Members.{imports}
+use Rattle.cjc_token_proof.specs.Subset.Members.{imports}
 use Rattle.cjc_tokens.specs.Members.{In, all_methods, first_of, is_virtual, later, same, signature_of}
 use Rattle.cjc_tokens.proofs.Facts.{same-refl, same-true}
 use Rattle.cjc_vtable.specs.Calls.{IsOneToOne}

@@ -10,7 +10,7 @@ use Rattle.cjc_shape_proof.specs.LowerJudge.declared.judged.Judged.{Judged}
 use Rattle.cjc_shape_proof.proofs.WrittenLaws.Files.{files_sound, own_unbroken}
 use Rattle.cjc_shape_proof.proofs.WrittenLaws.Worlds.{own_ordered}
 use Rattle.cjc_shape_proof.specs.Written.Converted.{IsConverted}
-use Rattle.cjc_subset.specs.Members.{imports}
+use Rattle.cjc_token_proof.specs.Subset.Members.{imports}
 use Rattle.cjc_theorem.proofs.AlikeLaws.Converted.{is_converted, own_checks, own_package}
 use Rattle.cjc_theorem.proofs.FairExports.Listed.{exports_plain, names}
 use Rattle.cjc_theorem.proofs.FairExports.Roots.{exports_sound, in_imports}

@@ -8,8 +8,8 @@ use Rattle.cjc_bytes.specs.AccessFlags.{is_private, is_protected, is_public, is_
 use Rattle.cjc_bytes.specs.declared.settings.Settings.{Settings}
 use Rattle.cjc_bytes.proofs.Bools.{both_front, both_back}
 use Rattle.cjc_bytes.proofs.Gets.{in_front, get_behind, mapped_at}
-use Rattle.cjc_code.specs.ClassFile.declared.tree.ClassTree.{ClassTree}
-use Rattle.cjc_code.specs.declared.method_code.MethodCode.{MethodCode}
+use Rattle.cjc_world.specs.ClassFile.declared.tree.ClassTree.{ClassTree}
+use Rattle.cjc_components.specs.Bytecode.declared.method_code.MethodCode.{MethodCode}
 use Rattle.cjc_components.specs.Descriptor.{as_added, method_in, methods_with_added, no_member}
 use Rattle.cjc_components.specs.ExportFile.{added_from, export_class, inherited_from, is_listed, method_entry}
 use Rattle.cjc_components.specs.ExportFile.{method_meant, methods_from, supers_from}
@@ -22,8 +22,8 @@ use Rattle.cjc_shape_proof.proofs.WrittenLaws.FittingLaws.Rules as Rules
 use Rattle.cjc_shape_proof.proofs.WrittenLaws.FittingLaws.Standing.{IsInheritedAt, added_in, inherited_in, listed_in}
 use Rattle.cjc_token_proof.proofs.TablesLaws.Clean.{own_name}
 use Rattle.cjc_token_proof.proofs.TablesLaws.Filed.{own_in, has-front}
-use Rattle.cjc_subset.specs.Checks.{check_breaks}
-use Rattle.cjc_subset.specs.Flags.{has_two_accesses}
+use Rattle.cjc_token_proof.specs.Subset.Checks.{check_breaks}
+use Rattle.cjc_token_proof.specs.Subset.Flags.{has_two_accesses}
 use Rattle.cjc_token_proof.specs.Tables.Sound.{IsSound}
 use Rattle.cjc_tokens.proofs.Facts.{same-true}
 use Rattle.cjc_tokens.specs.Lines.{Declared, Imported, line_at, line_in, line_of}

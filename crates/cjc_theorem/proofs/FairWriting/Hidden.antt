@@ -11,8 +11,8 @@ use Rattle.cjc_bytes.specs.declared.settings.Settings.{Settings}
 use Rattle.cjc_bytes.proofs.Bools.{both_front, hidden_closed}
 use Rattle.cjc_bytes.proofs.Gets.{in_front}
 use Rattle.cjc_bytes.proofs.Plain.{no_both}
-use Rattle.cjc_code.specs.declared.method_code.MethodCode.{MethodCode}
-use Rattle.cjc_subset.specs.Checks.{check_breaks}
+use Rattle.cjc_components.specs.Bytecode.declared.method_code.MethodCode.{MethodCode}
+use Rattle.cjc_token_proof.specs.Subset.Checks.{check_breaks}
 use Rattle.cjc_theorem.proofs.AlikeLaws.VirtualCalls.Chosen.{has_methods}
 use Rattle.cjc_theorem.proofs.AlikeLaws.VirtualCalls.Hidden.{gets_none}
 use Rattle.cjc_tokens.proofs.Facts.{chosen-In, chosen-passes, chosen-some}

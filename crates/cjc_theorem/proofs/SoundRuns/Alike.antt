@@ -10,14 +10,14 @@ use Rattle.cjc_token_proof.specs.CardSemantics.Bytecode.Runs.{Agree}
 use Rattle.cjc_bytes.specs.Breaks.{Break}
 use Rattle.cjc_bytes.specs.declared.fault.MemberId.{MemberId}
 use Rattle.cjc_token_proof.proofs.WorldProofOwn.{mapped_at}
-use Rattle.cjc_code.proofs.ClassFileFitting.{spelt_fits}
-use Rattle.cjc_code.specs.ClassFile.Code.{CodeTree}
-use Rattle.cjc_code.specs.ClassFile.Fits.{ClassFits}
-use Rattle.cjc_code.specs.ClassFile.declared.tree.ClassTree.{ClassTree}
-use Rattle.cjc_code.specs.ClassFile.declared.tree.MethodTree.{MethodTree}
+use Rattle.cjc_world.proofs.ClassFileFitting.{spelt_fits}
+use Rattle.cjc_world.specs.ClassFile.Code.{CodeTree}
+use Rattle.cjc_world.specs.ClassFile.Fits.{ClassFits}
+use Rattle.cjc_world.specs.ClassFile.declared.tree.ClassTree.{ClassTree}
+use Rattle.cjc_world.specs.ClassFile.declared.tree.MethodTree.{MethodTree}
 use Rattle.cjc_token_proof.specs.Clinit.Image.{IsImage}
 use Rattle.cjc_token_proof.specs.Clinit.Rules.{BreaksImage}
-use Rattle.cjc_code.specs.PackageCodes.{all_codes}
+use Rattle.cjc_components.specs.Bytecode.PackageCodes.{all_codes}
 use Rattle.cjc_components.specs.Package.{LaidMethod, Package, pool}
 use Rattle.cjc_vtable.specs.Fixpoint.Tables.{HasRow}
 use Rattle.cjc_shape_proof.specs.LowerJudge.Rules.{settings_of}
@@ -40,7 +40,7 @@ use Rattle.cjc_ncode.specs.ByLabel.{Named}
 use Rattle.cjc_ncode.specs.Written.{narrow_method}
 use Rattle.cjc_ncode.specs.declared.narrow.NMethod.{NMethod}
 use Rattle.cjc_shape_proof.proofs.ShapeSound.{are_ready, listed, no_image_break, world_unbroken}
-use Rattle.cjc_subset.specs.Ints.{any_works_on_int}
+use Rattle.cjc_token_proof.specs.Subset.Ints.{any_works_on_int}
 use Rattle.cjc_shape_proof.specs.LowerShape.Prepared.{IsSound}
 use Rattle.cjc_shape_proof.specs.Intervals.Frames.{RangeState}
 use Rattle.cjc_shape_proof.specs.Intervals.Tables.{IsLeastRanges}

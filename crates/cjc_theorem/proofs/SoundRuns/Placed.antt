@@ -12,9 +12,9 @@ use Rattle.cjc_bytes.specs.Descriptor.{IsClassName, IsName, inside, last, more, 
 use Rattle.cjc_bytes.proofs.Bools.{or_right}
 use Rattle.cjc_bytes.proofs.Numbers.{first_byte}
 use Rattle.cjc_token_proof.proofs.WorldProofOwn.{mapped_at, method_is}
-use Rattle.cjc_code.specs.ClassFile.Code.{CodeTree}
-use Rattle.cjc_code.specs.ClassFile.declared.tree.ClassTree.{ClassTree}
-use Rattle.cjc_code.specs.ClassFile.declared.tree.MethodTree.{MethodTree}
+use Rattle.cjc_world.specs.ClassFile.Code.{CodeTree}
+use Rattle.cjc_world.specs.ClassFile.declared.tree.ClassTree.{ClassTree}
+use Rattle.cjc_world.specs.ClassFile.declared.tree.MethodTree.{MethodTree}
 use Rattle.cjc_world.specs.ExportFile.declared.tree.ExportClass.{ExportClass}
 use Rattle.cjc_shape_proof.specs.LowerJudge.Rules.{settings_of}
 use Rattle.cjc_shape_proof.specs.LowerJudge.Spelt.{IsRead, exports_of}
@@ -26,8 +26,8 @@ use Rattle.cjc_shape_proof.proofs.ShapeSound.{is_tested, listed, world_unbroken}
 use Rattle.cjc_shape_proof.specs.LowerShape.Prepared.{IsSound}
 use Rattle.cjc_token_proof.proofs.WorldProofRules.{method_kept}
 use Rattle.cjc_theorem.proofs.SoundRuns.Read.{package_is, read_files}
-use Rattle.cjc_subset.specs.Flags.{is_unfit_method_kind}
-use Rattle.cjc_subset.specs.Members.{imports}
+use Rattle.cjc_token_proof.specs.Subset.Flags.{is_unfit_method_kind}
+use Rattle.cjc_token_proof.specs.Subset.Members.{imports}
 use Rattle.cjc_token_proof.proofs.TablesLaws.Clean.{has_named}
 use Rattle.cjc_token_proof.proofs.TablesLaws.Order.{kind-has, kind-in}
 use Rattle.cjc_token_proof.specs.Tables.Sound.{IsSound as IsSoundPackage, export_count}

@@ -11,11 +11,11 @@ use Rattle.std.proofs.lemmas.Bool.{and_from}
 use Rattle.cjc_jvm_semantics.specs.Linked.{Method}
 use Rattle.cjc_bytes.specs.declared.fault.MemberId.{MemberId}
 use Rattle.cjc_bytes.proofs.Bools.{both_front, both_back}
-use Rattle.cjc_code.specs.ClassFile.declared.tree.Catch.{Catch}
-use Rattle.cjc_code.specs.declared.insn.JCase.{JCase}
-use Rattle.cjc_code.specs.declared.insn.JInsn.{JInsn}
-use Rattle.cjc_code.specs.declared.insn.JOp.{JOp}
-use Rattle.cjc_code.specs.declared.insn.JOp.TheVariants as jop
+use Rattle.cjc_world.specs.ClassFile.declared.tree.Catch.{Catch}
+use Rattle.cjc_components.specs.Bytecode.declared.insn.JCase.{JCase}
+use Rattle.cjc_components.specs.Bytecode.declared.insn.JInsn.{JInsn}
+use Rattle.cjc_components.specs.Bytecode.declared.insn.JOp.{JOp}
+use Rattle.cjc_components.specs.Bytecode.declared.insn.JOp.TheVariants as jop
 
 -- ---- an operation as its kind, its numbers and its names
 

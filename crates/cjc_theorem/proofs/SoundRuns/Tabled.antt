@@ -9,13 +9,13 @@ use Rattle.cjc_jvm_semantics.specs.Linked.{Method}
 use Rattle.cjc_jvm_semantics.specs.OnePackage.{is_initialiser, method_by}
 use Rattle.cjc_bytes.specs.declared.fault.MemberId.{MemberId}
 use Rattle.cjc_bytes.proofs.Gets.{all_at}
-use Rattle.cjc_code.specs.ClassFile.Code.{CodeTree}
-use Rattle.cjc_code.specs.ClassFile.Fits.{ClassFits, CodeFits, MethodFits}
-use Rattle.cjc_code.specs.ClassFile.declared.tree.ClassTree.{ClassTree}
-use Rattle.cjc_code.specs.ClassFile.declared.tree.MethodTree.{MethodTree}
-use Rattle.cjc_code.specs.Decoded.{decoded, insns_of, of_code, of_method}
-use Rattle.cjc_code.specs.PackageCodes.{all_codes}
-use Rattle.cjc_code.specs.declared.method_code.MethodCode.{MethodCode}
+use Rattle.cjc_world.specs.ClassFile.Code.{CodeTree}
+use Rattle.cjc_world.specs.ClassFile.Fits.{ClassFits, CodeFits, MethodFits}
+use Rattle.cjc_world.specs.ClassFile.declared.tree.ClassTree.{ClassTree}
+use Rattle.cjc_world.specs.ClassFile.declared.tree.MethodTree.{MethodTree}
+use Rattle.cjc_components.specs.Bytecode.Decoded.{decoded, insns_of, of_code, of_method}
+use Rattle.cjc_components.specs.Bytecode.PackageCodes.{all_codes}
+use Rattle.cjc_components.specs.Bytecode.declared.method_code.MethodCode.{MethodCode}
 use Rattle.cjc_vtable.specs.Fixpoint.Tables.{HasRow}
 use Rattle.cjc_shape_proof.specs.LowerMethods.Ready.{AreReady, AreRows}
 use Rattle.cjc_token_proof.specs.Narrow.Rows.Resolved.{constant_named}
@@ -23,7 +23,7 @@ use Rattle.cjc_narrow_proof.specs.Laws.Left.{HasLeast, IsReadMethod}
 use Rattle.cjc_narrow_proof.specs.Runs.Tables.{Tables, body_in}
 use Rattle.cjc_shape_proof.specs.Intervals.Frames.{RangeState}
 use Rattle.cjc_shape_proof.specs.Intervals.Tables.{IsLeastRanges, Passes}
-use Rattle.cjc_code.specs.ReadLaws.Members.{IsReadClass}
+use Rattle.cjc_components.specs.Bytecode.ReadLaws.Members.{IsReadClass}
 use Rattle.cjc_theorem.proofs.SoundRuns.Coded.{IsCoded, among, coded, is_among, of_classes}
 use Rattle.cjc_theorem.proofs.SoundRuns.Listed.{in_classes}
 use Rattle.cjc_token_proof.specs.Types.declared.state.State.{State}

@@ -18,7 +18,7 @@ use Rattle.cjc_bytes.proofs.Gets.{set_length}
 use Rattle.cjc_bytes.proofs.Options.{option_taken}
 use Rattle.cjc_bytes.proofs.Quantified.{all_both}
 use Rattle.cjc_jvm_semantics.specs.OnePackage as by_name
-use Rattle.cjc_code.specs.ClassFile.declared.tree.ClassTree.{ClassTree}
+use Rattle.cjc_world.specs.ClassFile.declared.tree.ClassTree.{ClassTree}
 use Rattle.cjc_token_proof.specs.Clinit.declared.stage.Held.{Held}
 use Rattle.cjc_token_proof.specs.Clinit.declared.stage.Held.TheVariants as held
 use Rattle.cjc_token_proof.specs.Clinit.declared.stage.Start.{Start}
@@ -31,11 +31,11 @@ use Rattle.cjc_token_proof.specs.Clinit.Image as images
 use Rattle.cjc_token_proof.specs.Clinit.Initialiser.{Initialises, Makes, Put, Stores, element_kind}
 use Rattle.cjc_token_proof.specs.Clinit.Initialiser.{of_array, of_null, of_number, open_place}
 use Rattle.cjc_token_proof.specs.Clinit.Initialiser as init
-use Rattle.cjc_code.specs.declared.insn.JOp.{JOp}
-use Rattle.cjc_code.specs.declared.method_code.MethodCode.{MethodCode}
+use Rattle.cjc_components.specs.Bytecode.declared.insn.JOp.{JOp}
+use Rattle.cjc_components.specs.Bytecode.declared.method_code.MethodCode.{MethodCode}
 use Rattle.cjc_token_proof.specs.Narrow.Rows.Package.{element_of_kind, named}
 use Rattle.cjc_ncode.specs.ByLabel.{Named}
-use Rattle.cjc_code.specs.Range.Span.{Holds}
+use Rattle.cjc_components.specs.Range.Span.{Holds}
 use Rattle.cjc_token_proof.specs.Script.declared.value.Value.TheVariants.{Num}
 use Rattle.cjc_token_proof.specs.Script.Sorts.{Boolean, Booleans, Byte, Bytes, Element, Int, Ints, NoValue, OfNumbers}
 use Rattle.cjc_token_proof.specs.Script.Sorts.{Reference}

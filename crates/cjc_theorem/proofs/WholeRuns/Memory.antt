@@ -11,11 +11,11 @@ use Rattle.cjc_bytes.proofs.Bools.{both_back}
 use Rattle.cjc_token_proof.specs.CardSemantics.Bytecode.Effects.{Slot}
 use Rattle.cjc_jvm_semantics.specs.OnePackage.{array_place, cell_of, cells, cells_in, is_cell, number_place, or_zero}
 use Rattle.cjc_jvm_semantics.specs.Effects.{is_same_field}
-use Rattle.cjc_code.specs.ClassFile.declared.tree.ClassTree.{ClassTree}
-use Rattle.cjc_code.specs.ClassFile.declared.tree.FieldTree.{FieldTree}
+use Rattle.cjc_world.specs.ClassFile.declared.tree.ClassTree.{ClassTree}
+use Rattle.cjc_world.specs.ClassFile.declared.tree.FieldTree.{FieldTree}
 use Rattle.cjc_token_proof.specs.Clinit.Fields.{has_unfit_value}
 use Rattle.cjc_token_proof.specs.Clinit.Image.{IsImage, of_classes}
-use Rattle.cjc_code.specs.declared.method_code.MethodCode.{MethodCode}
+use Rattle.cjc_components.specs.Bytecode.declared.method_code.MethodCode.{MethodCode}
 use Rattle.cjc_token_proof.specs.Narrow.Rows.Package.{element_of_kind, first_array, first_cell, named}
 use Rattle.cjc_narrow_proof.specs.Runs.Converted.{IsFirst, IsFirstArray}
 use Rattle.cjc_narrow_proof.specs.Runs.Tables.{Tables, look_ups}

@@ -5,13 +5,13 @@ use Rattle.cjc_bytes.specs.declared.fault.MemberId.{MemberId}
 use Rattle.cjc_bytes.specs.declared.settings.Settings.{Settings}
 use Rattle.cjc_jvm_semantics.specs.Linked.{Method}
 use Rattle.cjc_jvm_semantics.specs.OnePackage.{object_fields}
-use Rattle.cjc_code.specs.ClassFile.Code.{CodeTree}
-use Rattle.cjc_code.specs.ClassFile.declared.tree.ClassTree.{ClassTree}
-use Rattle.cjc_code.specs.ClassFile.declared.tree.MethodTree.{MethodTree}
-use Rattle.cjc_code.specs.Decoded.{decoded, insns_of, of_code, of_method}
-use Rattle.cjc_code.specs.declared.insn.JOp.{JOp}
-use Rattle.cjc_code.specs.declared.insn.JOp.TheVariants as jop
-use Rattle.cjc_code.specs.declared.method_code.MethodCode.{MethodCode}
+use Rattle.cjc_world.specs.ClassFile.Code.{CodeTree}
+use Rattle.cjc_world.specs.ClassFile.declared.tree.ClassTree.{ClassTree}
+use Rattle.cjc_world.specs.ClassFile.declared.tree.MethodTree.{MethodTree}
+use Rattle.cjc_components.specs.Bytecode.Decoded.{decoded, insns_of, of_code, of_method}
+use Rattle.cjc_components.specs.Bytecode.declared.insn.JOp.{JOp}
+use Rattle.cjc_components.specs.Bytecode.declared.insn.JOp.TheVariants as jop
+use Rattle.cjc_components.specs.Bytecode.declared.method_code.MethodCode.{MethodCode}
 use Rattle.cjc_vtable.specs.Fixpoint.Tables.{HasRow}
 use Rattle.cjc_shape_proof.specs.Whole.{Accepts, HoldsFor, IsWhole}
 use Rattle.cjc_shape_proof.proofs.FindsLaws.Descs.{read_of}
@@ -27,12 +27,12 @@ use Rattle.cjc_narrow_proof.specs.Runs.Names.{AreNamed, IsNamed, a_call_on_recei
 use Rattle.cjc_narrow_proof.specs.Runs.Names.{a_put_field, a_static_call, a_test, an_array, booleans, bytes}
 use Rattle.cjc_narrow_proof.specs.Runs.Names.{is_on_array, names_nothing, returns, shorts, throws}
 use Rattle.cjc_narrow_proof.specs.Runs.Tables.{Tables, look_ups}
-use Rattle.cjc_code.specs.ReadLaws.Instructions.{IsInstruction, has_opcode}
-use Rattle.cjc_code.proofs.ReadLaws.Decoded.{decoded_instruction}
+use Rattle.cjc_components.specs.Bytecode.ReadLaws.Instructions.{IsInstruction, has_opcode}
+use Rattle.cjc_ncode.proofs.BytecodeDecoded.{decoded_instruction}
 use Rattle.cjc_narrow_proof.proofs.SelectedLaws.Cuts.{decoded as is_decoded}
 use Rattle.cjc_narrow_proof.proofs.SelectedLaws.IntFree.{op_free}
-use Rattle.cjc_subset.specs.Ints.{works_on_int}
-use Rattle.cjc_subset.specs.Types.{is_unsupported_number, names_unsupported}
+use Rattle.cjc_token_proof.specs.Subset.Ints.{works_on_int}
+use Rattle.cjc_token_proof.specs.Subset.Types.{is_unsupported_number, names_unsupported}
 use Rattle.cjc_narrow_proof.specs.Tables.Arrays.{arraylength}
 use Rattle.cjc_narrow_proof.specs.Tables.Calls.{count_of}
 use Rattle.cjc_narrow_proof.specs.Tables.Supported as plain

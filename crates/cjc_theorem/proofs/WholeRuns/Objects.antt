@@ -12,11 +12,11 @@ use Rattle.cjc_bytes.proofs.Gets.{all_at}
 use Rattle.cjc_jvm_semantics.specs.OnePackage.{declared_fields, instance_fields, member_of, object_fields}
 use Rattle.cjc_shape_proof.specs.WorldProof.Calls.Solid.{IsSolid}
 use Rattle.cjc_token_proof.proofs.WorldProofOwn.{mapped_at}
-use Rattle.cjc_code.proofs.ClassFileFitting.{spelt_fits}
-use Rattle.cjc_code.specs.ClassFile.Fits as fits
-use Rattle.cjc_code.specs.ClassFile.declared.tree.ClassTree.{ClassTree}
-use Rattle.cjc_code.specs.ClassFile.declared.tree.FieldTree.{FieldTree}
-use Rattle.cjc_code.specs.declared.method_code.MethodCode.{MethodCode}
+use Rattle.cjc_world.proofs.ClassFileFitting.{spelt_fits}
+use Rattle.cjc_world.specs.ClassFile.Fits as fits
+use Rattle.cjc_world.specs.ClassFile.declared.tree.ClassTree.{ClassTree}
+use Rattle.cjc_world.specs.ClassFile.declared.tree.FieldTree.{FieldTree}
+use Rattle.cjc_components.specs.Bytecode.declared.method_code.MethodCode.{MethodCode}
 use Rattle.cjc_shape_proof.proofs.FindsLaws.Descs.{read_of}
 use Rattle.cjc_shape_proof.proofs.FindsLaws.Fields.{value_field, word_field}
 use Rattle.cjc_narrow_proof.specs.Runs.Names.{IsWordField}
@@ -24,8 +24,8 @@ use Rattle.cjc_token_proof.specs.Script.Sorts.{field_sort}
 use Rattle.cjc_narrow_proof.specs.Selection.Objects.{has_values, is_field}
 use Rattle.cjc_shape_proof.specs.WorldProof.Files.{AreReadFiles}
 use Rattle.cjc_token_proof.proofs.WorldProofRules.{field_kept}
-use Rattle.cjc_subset.specs.Checks.{check_breaks}
-use Rattle.cjc_subset.specs.Types.{is_int_desc}
+use Rattle.cjc_token_proof.specs.Subset.Checks.{check_breaks}
+use Rattle.cjc_token_proof.specs.Subset.Types.{is_int_desc}
 use Rattle.cjc_world.specs.Upwards.{Has, after, foremost}
 use Rattle.cjc_world.proofs.UpwardLaws.Lines.{has-cons, has-either, line_named, of_line}
 use Rattle.cjc_world.specs.Classes.{Class, Member, all_classes, class_named, field_of_class}

@@ -3,8 +3,8 @@ use Rattle.std.proofs.Common.{◌≡◌, ℕ, refl, sym, subst, Bool, true, fals
 use Rattle.std.specs.Prelude.{◌==◌, ◌||◌}
 use Rattle.std.specs.List.{AllByRecursion}
 use Rattle.std.proofs.lemmas.Bool.{eqb-true}
-use Rattle.cjc_code.specs.declared.insn.JOp.TheVariants as jop
-use Rattle.cjc_code.specs.ReadLaws.Instructions.{has_opcode, is_one_of}
+use Rattle.cjc_components.specs.Bytecode.declared.insn.JOp.TheVariants as jop
+use Rattle.cjc_components.specs.Bytecode.ReadLaws.Instructions.{has_opcode, is_one_of}
 use Rattle.cjc_narrow_proof.specs.Tables.Arrays.{IsOnArray, aaload, aastore, baload, bastore, saload, sastore}
 use Rattle.cjc_narrow_proof.specs.Tables.Supported.{IsPlain, IsReturn}
 use Rattle.cjc_narrow_proof.specs.Tables.Supported as plain

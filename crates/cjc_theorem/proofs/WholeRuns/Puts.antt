@@ -11,9 +11,9 @@ use Rattle.cjc_bytes.proofs.Numbers.{same_place}
 use Rattle.cjc_bytes.proofs.Options.{option_taken}
 use Rattle.cjc_bytes.proofs.Gets.{set_other}
 use Rattle.cjc_bytes.proofs.Quantified.{all_both}
-use Rattle.cjc_code.specs.ClassFile.declared.tree.ClassTree.{ClassTree}
-use Rattle.cjc_code.specs.ClassFile.declared.tree.FieldTree.{FieldTree}
-use Rattle.cjc_code.specs.ClassFile.declared.tree.MethodTree.{MethodTree}
+use Rattle.cjc_world.specs.ClassFile.declared.tree.ClassTree.{ClassTree}
+use Rattle.cjc_world.specs.ClassFile.declared.tree.FieldTree.{FieldTree}
+use Rattle.cjc_world.specs.ClassFile.declared.tree.MethodTree.{MethodTree}
 use Rattle.cjc_token_proof.specs.Clinit.declared.stage.Held.{Held}
 use Rattle.cjc_token_proof.specs.Clinit.declared.stage.Held.TheVariants as held
 use Rattle.cjc_token_proof.specs.Clinit.declared.stage.Start.{Start}
@@ -31,8 +31,8 @@ use Rattle.cjc_token_proof.specs.Clinit.Image as images
 use Rattle.cjc_token_proof.specs.Clinit.Initialiser.{Initialises, Put, is_initialiser, nothing_in, open_place}
 use Rattle.cjc_token_proof.specs.Clinit.Initialiser as init
 use Rattle.cjc_token_proof.proofs.WorldProofPlaces.{place-field}
-use Rattle.cjc_code.specs.declared.insn.JOp.{JOp}
-use Rattle.cjc_code.specs.declared.method_code.MethodCode.{MethodCode}
+use Rattle.cjc_components.specs.Bytecode.declared.insn.JOp.{JOp}
+use Rattle.cjc_components.specs.Bytecode.declared.method_code.MethodCode.{MethodCode}
 use Rattle.cjc_world.specs.declared.image.ArrayCell.{ArrayCell}
 use Rattle.cjc_world.specs.declared.image.StaticImage.{StaticImage}
 use Rattle.cjc_world.specs.declared.image.ValueCell.{ValueCell}

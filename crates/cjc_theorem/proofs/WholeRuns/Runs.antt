@@ -7,17 +7,17 @@ use Rattle.cjc_bytes.specs.Breaks.{Break, broken_at}
 use Rattle.cjc_bytes.specs.Order.{file_of}
 use Rattle.cjc_bytes.specs.declared.fault.MemberId.{MemberId}
 use Rattle.cjc_bytes.specs.declared.settings.Settings.{Settings}
-use Rattle.cjc_code.specs.ClassFile.declared.tree.ClassTree.{ClassTree}
-use Rattle.cjc_code.specs.ClassFile.declared.tree.FieldTree.{FieldTree}
+use Rattle.cjc_world.specs.ClassFile.declared.tree.ClassTree.{ClassTree}
+use Rattle.cjc_world.specs.ClassFile.declared.tree.FieldTree.{FieldTree}
 use Rattle.cjc_token_proof.specs.Clinit.Fields.{has_unfit_value}
 use Rattle.cjc_token_proof.specs.Clinit.Image.{IsImage}
 use Rattle.cjc_token_proof.specs.Clinit.Initialiser.{is_initialiser}
 use Rattle.cjc_token_proof.specs.Clinit.Rules.{BreaksImage, of_class}
-use Rattle.cjc_code.specs.declared.method_code.MethodCode.{MethodCode}
+use Rattle.cjc_components.specs.Bytecode.declared.method_code.MethodCode.{MethodCode}
 use Rattle.cjc_shape_proof.specs.Whole.{IsWhole}
 use Rattle.cjc_narrow_proof.specs.Runs.Converted.{IsConverted, IsFirst}
 use Rattle.cjc_narrow_proof.specs.Runs.Tables.{Tables, look_ups}
-use Rattle.cjc_subset.specs.Places.{at_class}
+use Rattle.cjc_token_proof.specs.Subset.Places.{at_class}
 use Rattle.cjc_theorem.proofs.WholeRuns.Memory.{first_is}
 use Rattle.cjc_theorem.proofs.WholeRuns.Named.{converted}
 use Rattle.cjc_theorem.proofs.WholeRuns.Objects.{own_field_values}

@@ -20,10 +20,10 @@ use Rattle.cjc_jvm_semantics.specs.OnePackage.{cells, cell_of, cells_in, constan
 use Rattle.cjc_jvm_semantics.specs.OnePackage.{field_by, field_hit, field_named, is_cell, of_class}
 use Rattle.cjc_shape_proof.specs.WorldProof.Calls.Solid.{IsSolid}
 use Rattle.cjc_token_proof.proofs.WorldProofOwn.{IsFieldAt, field_at, field_hit_is, mapped_at}
-use Rattle.cjc_code.specs.ClassFile.declared.tree.ClassTree.{ClassTree}
-use Rattle.cjc_code.specs.ClassFile.declared.tree.FieldTree.{FieldTree}
-use Rattle.cjc_code.specs.declared.insn.JOp.TheVariants as jop
-use Rattle.cjc_code.specs.declared.method_code.MethodCode.{MethodCode}
+use Rattle.cjc_world.specs.ClassFile.declared.tree.ClassTree.{ClassTree}
+use Rattle.cjc_world.specs.ClassFile.declared.tree.FieldTree.{FieldTree}
+use Rattle.cjc_components.specs.Bytecode.declared.insn.JOp.TheVariants as jop
+use Rattle.cjc_components.specs.Bytecode.declared.method_code.MethodCode.{MethodCode}
 use Rattle.cjc_world.specs.ExportFile.declared.tree.ExportClass.{ExportClass}
 use Rattle.cjc_world.specs.ExportFile.declared.tree.ExportField.{ExportField}
 use Rattle.cjc_world.specs.ExportFile.Members.{is_constant_type, may_be_constant}
@@ -34,20 +34,20 @@ use Rattle.cjc_narrow_proof.specs.Laws.Unbroken.{IsInsnOf, IsUnbroken}
 use Rattle.cjc_narrow_proof.proofs.LawsLaws.Instructions.{op_fit, op_there, static_there}
 use Rattle.cjc_narrow_proof.specs.Runs.Names.{IsNamed, IsWordField, a_constant, a_static}
 use Rattle.cjc_narrow_proof.specs.Runs.Tables.{Tables}
-use Rattle.cjc_code.specs.Range.Span.{Holds, full}
-use Rattle.cjc_code.proofs.ReadLaws.Entries.{fit32}
+use Rattle.cjc_components.specs.Range.Span.{Holds, full}
+use Rattle.cjc_ncode.proofs.BytecodeEntries.{fit32}
 use Rattle.cjc_shape_proof.specs.WorldProof.Files.{AreReadFiles}
-use Rattle.cjc_subset.specs.Checks.{is_imported_variable, names_variable}
-use Rattle.cjc_subset.specs.Members.{imported_field, imports, is_declared_constant, is_imported_constant}
-use Rattle.cjc_subset.specs.Members.{declared_field}
-use Rattle.cjc_subset.specs.Members as subset
-use Rattle.cjc_subset.proofs.Fits.{field_fits}
-use Rattle.cjc_subset.specs.Names.{is_constant_found, is_hidden, is_other_kind, is_unfit_field, names_unfit}
+use Rattle.cjc_token_proof.specs.Subset.Checks.{is_imported_variable, names_variable}
+use Rattle.cjc_token_proof.specs.Subset.Members.{imported_field, imports, is_declared_constant, is_imported_constant}
+use Rattle.cjc_token_proof.specs.Subset.Members.{declared_field}
+use Rattle.cjc_token_proof.specs.Subset.Members as subset
+use Rattle.cjc_vtable.proofs.SubsetFits.{field_fits}
+use Rattle.cjc_token_proof.specs.Subset.Names.{is_constant_found, is_hidden, is_other_kind, is_unfit_field, names_unfit}
 use Rattle.cjc_token_proof.specs.Types.declared.cell.Cell.{Cell}
 use Rattle.cjc_token_proof.specs.Types.declared.cell.Cell.TheVariants.{Number}
 use Rattle.cjc_narrow_proof.proofs.SelectedLaws.IntFree.{op_free}
-use Rattle.cjc_subset.specs.Ints.{works_on_int}
-use Rattle.cjc_subset.specs.Types.{is_int_desc}
+use Rattle.cjc_token_proof.specs.Subset.Ints.{works_on_int}
+use Rattle.cjc_token_proof.specs.Subset.Types.{is_int_desc}
 use Rattle.cjc_token_proof.specs.Types.Types.{no_parts, parts, parts_or_none, result_of}
 use Rattle.cjc_world.specs.Upwards.{Has, after, foremost}
 use Rattle.cjc_world.proofs.UpwardLaws.Lines.{field_found_above, has-back, has-front}

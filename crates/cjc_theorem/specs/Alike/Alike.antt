@@ -8,7 +8,7 @@ use Rattle.cjc_jvm_semantics.specs.ByName.{run as run_by_name}
 use Rattle.cjc_jvm_semantics.specs.CapRead.declared.tree.CapTree.{CapTree}
 use Rattle.cjc_token_proof.specs.CardSemantics.Machine.ByToken.{run as run_by_token}
 use Rattle.cjc_token_proof.specs.Clinit.Image.{IsImage}
-use Rattle.cjc_code.specs.PackageCodes.{all_codes}
+use Rattle.cjc_components.specs.Bytecode.PackageCodes.{all_codes}
 use Rattle.cjc_shape_proof.specs.LowerJudge.Rules.{has_applets}
 use Rattle.cjc_token_proof.specs.List.Listed.{ListTree}
 use Rattle.cjc_components.specs.Paired.Naming.{loaded_of}

@@ -7,7 +7,7 @@ use Rattle.cjc_token_proof.specs.CardSemantics.Bytecode.Runs.{Agree}
 use Rattle.cjc_token_proof.specs.CardSemantics.Machine.ByToken.{run as run_by_token}
 use Rattle.cjc_token_proof.specs.CheckRules.Complete.{Complete, complete}
 use Rattle.cjc_token_proof.specs.Clinit.Image.{IsImage}
-use Rattle.cjc_code.specs.PackageCodes.{all_codes}
+use Rattle.cjc_components.specs.Bytecode.PackageCodes.{all_codes}
 use Rattle.cjc_components.specs.Package.{LaidMethod, Package, pool}
 use Rattle.cjc_components.specs.Paired.Naming.{loaded_of}
 use Rattle.cjc_shape_proof.specs.LowerJudge.Rules.{has_applets}

@@ -5,7 +5,7 @@ use Rattle.cjc_bytes.specs.AccessFlags.{is_interface}
 use Rattle.cjc_world.specs.ExportFile.declared.tree.ExportClass.{ExportClass}
 use Rattle.cjc_world.specs.ExportFile.declared.tree.ExportMethod.{ExportMethod}
 use Rattle.cjc_world.specs.ExportFile.declared.tree.ExportTree.{ExportTree}
-use Rattle.cjc_subset.specs.Members.{imports}
+use Rattle.cjc_token_proof.specs.Subset.Members.{imports}
 use Rattle.cjc_tokens.specs.Members.{all_methods}
 use Rattle.cjc_vtable.specs.Calls.{IsOneToOne}
 use Rattle.cjc_world.specs.Classes.{Class, method_of_export, numbered}

@@ -5,7 +5,7 @@ ghost use Rattle.std.specs.Prelude.{◌≡◌, ℕ, List, true};
 ghost use Rattle.cjc_token_proof.specs.ByToken.Cells.{are_cells};
 ghost use Rattle.cjc_token_proof.specs.Clinit.Image.{IsImage};
 ghost use Rattle.cjc_shape_proof.specs.WorldProof.Initialisers.Values.{StandOnce};
-ghost use Rattle.cjc_code.specs.declared.method_code.MethodCode.{MethodCode};
+ghost use Rattle.cjc_components.specs.Bytecode.declared.method_code.MethodCode.{MethodCode};
 ghost use Rattle.cjc_components.specs.Package.{Package};
 ghost use Rattle.cjc_shape_proof.specs.LowerClasses.Descriptor.Fits.{AreFit};
 ghost use Rattle.cjc_shape_proof.specs.LowerJudge.declared.judged.Judged.{Judged};

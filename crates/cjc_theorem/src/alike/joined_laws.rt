@@ -26,10 +26,10 @@ use cjc_shape_proof::written::{
     converted_classes_keep_rules, converted_files_are_sound, converted_methods_are_consistent,
     converted_methods_are_in_order, converted_methods_are_ready, converted_packages_run_by_token,
 };
-use cjc_token_proof::written_calls::calls_take_words;
+use cjc_token_proof::written_calls::{calls_take_words, methods_take_their_words};
 use cjc_token_proof::written_sends::{
-    known_objects_receive_calls, operations_are_known, package_interfaces_ask,
-    sent_methods_begin_alike,
+    code_names_as_written, known_objects_receive_calls, operations_are_known,
+    package_interfaces_ask, sent_methods_begin_alike,
 };
 use cjc_vtable::package_laws;
 
@@ -41,7 +41,8 @@ pub fn converted_packages_are_joined()
 {
     calls_are_named();
     calls_have_opcodes();
-    calls_take_words::<State>();
+    calls_take_words();
+    code_names_as_written::<State>();
     converted_classes_keep_rules();
     converted_files_are_sound();
     converted_methods_are_consistent();
@@ -51,8 +52,9 @@ pub fn converted_packages_are_joined()
     first_cells_are_typed();
     instructions_name_what_is_there();
     known_objects_receive_calls();
+    methods_take_their_words::<State>();
     names_are_there();
-    operations_are_known::<State>();
+    operations_are_known();
     package_interfaces_ask();
     package_laws();
     sent_methods_begin_alike();

@@ -5,9 +5,9 @@
 ghost use Rattle.std.specs.Prelude.{◌≡◌, ℕ, List, Some, false, slice_get, true};
 ghost use Rattle.cjc_bytes.specs.declared.fault.MemberId.{MemberId as Member};
 ghost use Rattle.cjc_jvm_semantics.specs.OnePackage.{is_constructor};
-ghost use Rattle.cjc_code.specs.ClassFile.declared.tree.ClassTree.{ClassTree};
-ghost use Rattle.cjc_code.specs.Jvm as jvm;
-ghost use Rattle.cjc_code.specs.declared.insn.JOp.TheVariants as jop;
+ghost use Rattle.cjc_world.specs.ClassFile.declared.tree.ClassTree.{ClassTree};
+ghost use Rattle.cjc_components.specs.Bytecode.Jvm as jvm;
+ghost use Rattle.cjc_components.specs.Bytecode.declared.insn.JOp.TheVariants as jop;
 ghost use Rattle.cjc_components.specs.Package.{LaidMethod, Package, world};
 ghost use Rattle.cjc_shape_proof.specs.LowerJudge.declared.judged.Judged.{Judged};
 ghost use Rattle.cjc_token_proof.specs.List.Listed.{ListTree};

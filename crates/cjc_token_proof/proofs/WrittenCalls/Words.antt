@@ -48,7 +48,8 @@ use Rattle.cjc_world.proofs.Cycles.{class_named-name as name_is}
 use Rattle.cjc_token_proof.specs.WrittenCalls.Calls.{ExportsKeep, IsNamed, IsSought, KeepsSubtypes, KeepsTokens}
 use Rattle.cjc_token_proof.specs.WrittenCalls.Calls.{TakesWords, fixed, fixed_words, got, hidden, on_interface}
 use Rattle.cjc_token_proof.specs.WrittenCalls.Calls.{on_object, on_super, shown, super_words, virtual_words}
-use Rattle.cjc_token_proof.specs.WrittenCalls.Standing.{AreMethods, AreReady, ClassesStand, HaveOwnIds, place}
+use Rattle.cjc_token_proof.specs.WrittenCalls.Standing.{AreMethods, AreReady, ClassesStand, HaveOwnIds}
+use Rattle.cjc_token_proof.specs.WrittenCalls.Standing.{TakeTheirWords, place}
 use Rattle.cjc_token_proof.proofs.WrittenCalls.Facts.{Facts}
 use Rattle.cjc_token_proof.proofs.WrittenCalls.Found.{Own, first_own, line_named, own_is, stands_in_method}
 use Rattle.cjc_token_proof.proofs.WrittenCalls.Got.{Got, Holder, got_in_method, got_is, got_words, holder, shown_is}
@@ -65,16 +66,23 @@ use Rattle.cjc_token_proof.proofs.WrittenCalls.Towers.{class_stands, height_fits
 abbrev nargs_of : NMethod → ℕ
 nargs_of m = m.nargs
 
--- the code of a method of a class file takes the words of its flags and its descriptor
+-- the code of a method takes the words of its flags and its descriptor
 pub written_words : {A : Type 0} (list : ListTree) (files : Files) (codes : List MethodCode) (rows : Method
-    → List (Option A)) (p : Package) → IsPackage list files codes rows p → (j : ℕ) (t : LaidMethod)
-    → slice_get p.methods j ≡ Some t → (k : Method) → method_at p.files t.member ≡ Some k
-    → nargs_of t.code ≡ argument_words (flags_of (method_found (world p) k.id)) (let id = k.id in id.desc)
-written_words list files codes rows p is j t e k there =
-    let q = is.methods j t e in
-    ap nargs_of q.code
-    ∙ ap (λ fs. nargs_of (code_by fs (near_fields (pool p)) rows t.member (method_at fs t.member))) (sym is.by_files)
-    ∙ ap (λ o. nargs_of (code_by p.files (near_fields (pool p)) rows t.member o)) there
+    → List (Option A)) (p : Package) → IsPackage list files codes rows p → TakeTheirWords p
+written_words list files codes rows p is = record {
+  declared = λ j t e k there. by_code j t e (Some k) there;
+  added = λ j t e there. by_code j t e None there;
+}
+  where
+    by_code : (j : ℕ) (t : LaidMethod) → slice_get p.methods j ≡ Some t → (o : Option Method)
+        → method_at p.files t.member ≡ o → nargs_of t.code
+        ≡ nargs_of (code_by p.files (near_fields (pool p)) rows t.member o)
+    by_code j t e o there =
+        let q = is.methods j t e in
+        ap nargs_of q.code
+        ∙ ap (λ fs. nargs_of (code_by fs (near_fields (pool p)) rows t.member (method_at fs t.member)))
+        (sym is.by_files)
+        ∙ ap (λ o. nargs_of (code_by p.files (near_fields (pool p)) rows t.member o)) there
 
 -- ---- words
 
@@ -364,30 +372,25 @@ module _ (p : Package) (facts : Facts p) (subtypes : KeepsSubtypes (world p)) (t
 
 -- ---- the code at places
 
-pub counts_from : {A : Type 0} (list : ListTree) (files : Files) (codes : List MethodCode) (rows : Method
-    → List (Option A)) (p : Package) → IsPackage list files codes rows p → (forms : FormsLaw) (offsets : OffsetsLaw)
+pub counts_from : (p : Package) → TakeTheirWords p → (forms : FormsLaw) (offsets : OffsetsLaw)
     → AreReady p → AreMethods p → HaveOwnIds p → ClassesStand p → Counts p (place p)
-counts_from list files codes rows p is forms offsets ready methods own classes f k inside there =
+counts_from p takes forms offsets ready methods own classes f k inside there =
     let r = place_has forms offsets p ready methods own classes f k inside there (λ t. nargs_of t.code
     ≡ argument_words (flags_of (method_found (world p) k.id)) (let id = k.id in id.desc))
-    (λ j t e same. written_words list files codes rows p is j t e k (ap (method_at p.files) same ∙ there)) in
+    (λ j t e same. takes.declared j t e k (ap (method_at p.files) same ∙ there)) in
     ap (λ (q : Placed). nargs_of q.method) r.2 ∙ r.3
 
 -- A method that is added to its class begins as an abstract one with the words of its descriptor.
-pub added_begins : {A : Type 0} (list : ListTree) (files : Files) (codes : List MethodCode) (rows : Method
-    → List (Option A)) (p : Package) → IsPackage list files codes rows p → (forms : FormsLaw) (offsets : OffsetsLaw)
-    → AreReady p → AreMethods p → HaveOwnIds p → ClassesStand p
+pub added_begins : (p : Package) → TakeTheirWords p → (forms : FormsLaw) (offsets : OffsetsLaw) → AreReady p
+    → AreMethods p → HaveOwnIds p → ClassesStand p
     → (f : Found) → f.imported ≡ false → is_in_method (world p) f ≡ true → method_at p.files f ≡ None
     → (s : Start Code) × (start_of (loaded p) 0 (method_offset p f) ≡ Some s) × (s.is_abstract ≡ true)
     × (s.nargs ≡ added_words (world p) f (class_at (world p) f.imported f.class))
-added_begins list files codes rows p is forms offsets ready methods ids classes f own inside none =
+added_begins p takes forms offsets ready methods ids classes f own inside none =
     let here = added_starts forms offsets p ready methods ids classes f own inside none in
-    let takes = stood_has forms offsets p ready methods ids classes f own inside (λ t. nargs_of t.code
+    let words_are = stood_has forms offsets p ready methods ids classes f own inside (λ t. nargs_of t.code
     ≡ added_words (world p) f (class_at (world p) f.imported f.class))
-    (λ j t e same. (let q = is.methods j t e in
-    ap nargs_of q.code
-    ∙ ap (λ fs. nargs_of (code_by fs (near_fields (pool p)) rows t.member (method_at fs t.member))) (sym is.by_files)
-    ∙ ap (λ g. nargs_of (code_by p.files (near_fields (pool p)) rows g (method_at p.files g))) same
-    ∙ ap (λ o. nargs_of (code_by p.files (near_fields (pool p)) rows f o)) none)) in
+    (λ j t e same. takes.added j t e (ap (method_at p.files) same ∙ none)
+    ∙ ap (λ (g : Found). added_words (world p) g (class_at (world p) g.imported g.class)) same) in
     let at = stood forms offsets p ready methods ids classes f own inside in
-    (start_on_card (naming p) true (placed_at at.offset at.method), here, refl, takes)
+    (start_on_card (naming p) true (placed_at at.offset at.method), here, refl, words_are)

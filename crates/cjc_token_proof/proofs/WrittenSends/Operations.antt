@@ -1,8 +1,8 @@
 -- What the operations of narrow code name is known.
 use Rattle.std.proofs.Common.{◌≡◌, ℕ, zero, suc, ◌+◌, refl, sym, ap, subst, ◌∙◌, Bool, true, false, List, []}
-use Rattle.std.proofs.Common.{◌∷◌, ◌++◌}
+use Rattle.std.proofs.Common.{◌∷◌, ◌++◌, inl, inr, ⊎_elim}
 use Rattle.std.specs.Prelude.{Option, Some, None, flat_map, nat_le, slice_get, ◌==◌, ◌&&◌, ◌||◌, if◌then◌else◌, ℤ, pos}
-use Rattle.std.specs.Prelude.{negsuc}
+use Rattle.std.specs.Prelude.{negsuc, option_map, ◌⊎◌}
 use Rattle.std.specs.List.{list_any}
 use Rattle.cjc_bytes.specs.AccessFlags.{is_private}
 use Rattle.cjc_bytes.specs.declared.fault.MemberId.{MemberId}
@@ -35,9 +35,9 @@ use Rattle.cjc_components.specs.LowerNarrow.Rows.Resolved.{resolved_field}
 use Rattle.cjc_components.specs.LowerNarrow.Rows.Resolved.{special_by}
 use Rattle.cjc_components.specs.LowerNarrow.Rows.Selected.{near_fields}
 use Rattle.cjc_ncode.specs.ByLabel.{Callee, Fixed, OnInterface, OnObject, OnSuper, Resolved, jumping, making, operation}
-use Rattle.cjc_ncode.specs.ByLabel.{plain, switching, testing}
+use Rattle.cjc_ncode.specs.ByLabel.{element_type, plain, switching, testing, type_by}
 use Rattle.cjc_ncode.specs.ByLabel as label
-use Rattle.cjc_ncode.specs.PoolOrder.{same_member}
+use Rattle.cjc_ncode.specs.PoolOrder.{insn_keys, same_member}
 use Rattle.cjc_ncode.specs.Written.{Resolution, call_by, field_access, local, low_of, nargs_of, on_stack, pair_cases}
 use Rattle.cjc_ncode.specs.Written.{place_in, pushed, pushed_word, reached, static_access, static_by, switched}
 use Rattle.cjc_ncode.specs.Written.{Access, accessed as access_of, on_this, table_cases, this_access, type_test}
@@ -46,10 +46,11 @@ use Rattle.cjc_ncode.specs.declared.narrow.PairRole.{PairRole}
 use Rattle.cjc_ncode.proofs.WrittenCases.{written_cases}
 use Rattle.cjc_components.proofs.NarrowRoles.{written_as_same}
 use Rattle.cjc_components.specs.LowerNarrow.Pairs.Roles.{role_in, roles_of, with_pairs}
-use Rattle.cjc_components.specs.LowerNarrow.Rows.Package.{flags_of, read_of}
+use Rattle.cjc_components.specs.LowerNarrow.Rows.Package.{code_of, flags_of, read_of}
 use Rattle.cjc_components.specs.LowerNarrow.Written.Rows.{has_rows}
 use Rattle.cjc_ncode.specs.declared.narrow.NCase.{NCase}
 use Rattle.cjc_ncode.specs.declared.narrow.NInsn.{NInsn}
+use Rattle.cjc_ncode.specs.declared.narrow.NMethod.{NMethod}
 use Rattle.cjc_ncode.specs.declared.narrow.NInsn.TheVariants.{Op, Push, Local, Inc, Words, Jump, Switch, Named}
 use Rattle.cjc_ncode.specs.declared.narrow.NInsn.TheVariants.{Interface, NewArray, TypeTest}
 use Rattle.cjc_ncode.specs.declared.narrow.PoolKey.TheVariants as keys
@@ -59,9 +60,10 @@ use Rattle.cjc_token_proof.specs.Tables.Known.{may_name, order_of}
 use Rattle.cjc_card_semantics.specs.Range.Words.{low_word}
 use Rattle.cjc_world.specs.Classes.{Class}
 use Rattle.cjc_token_proof.specs.WrittenCalls.Calls.{IsNamed, TakesWords}
-use Rattle.cjc_token_proof.specs.WrittenSends.Named.{CallsAreNamed, IsTypeThere, NamesWhatIsThere}
-use Rattle.cjc_token_proof.specs.WrittenSends.Named.{InstructionsNameWhatIsThere, callee_in, calls_in, calls_of}
-use Rattle.cjc_token_proof.specs.WrittenSends.Named.{is_called, known, known_tests, same_call}
+use Rattle.cjc_token_proof.specs.WrittenSends.Named.{CallsAreNamed, CodeNamesAsWritten, IsTypeThere, NamesAsWritten}
+use Rattle.cjc_token_proof.specs.WrittenSends.Named.{InstructionsNameWhatIsThere, NamesWhatIsThere, as_written}
+use Rattle.cjc_token_proof.specs.WrittenSends.Named.{callee_in, calls_in, calls_of, is_called, known, known_tests}
+use Rattle.cjc_token_proof.specs.WrittenSends.Named.{no_key, same_call}
 
 -- ---- calls
 
@@ -114,6 +116,23 @@ call_named p named m is =
     let r = any_at (same_call m) (calls_of p) is in
     let same = call_tells m r.1 r.3 in
     named r.0 m (r.2 ∙ ap Some (sym same))
+
+-- ---- lists that are joined
+
+either_at : {A : Type 0} (xs ys : List A) (k : ℕ) (x : A) → slice_get (xs ++ ys) k ≡ Some x
+    → ((j : ℕ) × (slice_get xs j ≡ Some x)) ⊎ ((j : ℕ) × (slice_get ys j ≡ Some x))
+either_at [] ys k x e = inr (k, e)
+either_at (y ∷ xs) ys zero x e = inl (0, e)
+either_at (y ∷ xs) ys (suc k) x e = ⊎_elim (λ h. inl (suc h.0, h.1)) (λ h. inr h) (either_at xs ys k x e)
+
+-- what stands in lists that are joined stands in one of them
+pub flat_from : {A B : Type 0} (f : A → List B) (xs : List A) (k : ℕ) (y : B) → slice_get (flat_map f xs) k ≡ Some y
+    → (i : ℕ) × (x : A) × (slice_get xs i ≡ Some x) × ((j : ℕ) × (slice_get (f x) j ≡ Some y))
+flat_from f [] k y e = absurd cc
+flat_from f (x ∷ xs) k y e = ⊎_elim
+    (λ h. (0, x, refl, h))
+    (λ h. let r = flat_from f xs h.0 y h.1 in (suc r.0, r.1, r.2, r.3))
+    (either_at (f x) (flat_map f xs) k y e)
 
 -- ---- operations
 
@@ -548,42 +567,103 @@ module _ (p : Package) where
       in (m, refl, ap (λ (x : Placed). x.method.insns) (sym same))
   placed_of at (m ∷ ms) (suc j) q e = placed_of (at + method_size m) ms j q e
 
+  -- an instruction without a key names nothing
+  none_tested : (m : Meaning) → Known (testing m None)
+  none_tested (Plain calculation) = tt
+  none_tested (Branches test) = tt
+  none_tested (Ranged is_int) = tt
+  none_tested (Paired is_int) = tt
+  none_tested (Touches access) = tt
+  none_tested (Uses how) = tt
+  none_tested CallsInterface = tt
+  none_tested MakesNumbers = tt
+  none_tested Casts = tt
+  none_tested Asks = tt
+  none_tested Nothing = tt
+
+  type_without : (m : Meaning) (kind : ℕ) → Known (testing m (type_by kind None))
+  type_without m kind = by (kind == 0) (kind == 14) (element_type kind)
+    where
+      by : (a b : Bool) (element : Option Element) → Known (testing m (if a then None else (if b then None
+          else option_map OfNumbers element)))
+      by true b element = none_tested m
+      by false true element = none_tested m
+      by false false None = none_tested m
+      by false false (Some element) = test_known m (OfNumbers element) tt
+
+  no_key_known : (i : NInsn) → insn_keys i ≡ [] → Known (operation i)
+  no_key_known (Op op) e = plain_known (meaning op) []
+  no_key_known (Push op z) e = plain_known (meaning op) (z ∷ [])
+  no_key_known (Local op l) e = plain_known (meaning op) (pos l ∷ [])
+  no_key_known (Inc op l by) e = plain_known (meaning op) (pos l ∷ by ∷ [])
+  no_key_known (Words op m n) e = plain_known (meaning op) _
+  no_key_known (Jump op target) e = jump_known (meaning op) target
+  no_key_known (Switch op other low cases) e = switch_known (meaning op) other low cases
+  no_key_known (Named op key) e = absurd cc
+  no_key_known (Interface nargs m) e = absurd cc
+  no_key_known (NewArray kind) e = making_known _
+  no_key_known (TypeTest op kind None) e = type_without (meaning op) kind
+  no_key_known (TypeTest op kind (Some class)) e = absurd cc
+
   -- What an instruction of Method names is known.
-  pub operations_known : {A : Type 0} (list : ListTree) (codes : List MethodCode) (rows : Method → List (Option A))
-      → IsPackage list p.files codes rows p → InstructionsNameWhatIsThere p
+  pub operations_known : (near : List MemberId) → CodeNamesAsWritten p near → InstructionsNameWhatIsThere p
       → (q : Placed) (k : ℕ) (i : NInsn) → IsAmong (placed_methods p) q → slice_get q.method.insns k ≡ Some i
       → Known (operation i)
-  unfolding with_pairs
-  operations_known {A = A} list codes rows is there q k i among e =
+  operations_known near names there q k i among e =
       let r = placed_of (first_method p.methods) p.methods among.place q among.there in
       let m = r.0 in
       let here : slice_get m.code.insns k ≡ Some i = ap (λ xs. slice_get xs k) (sym r.2) ∙ e in
-      by m r.1 here (method_at p.files m.member) refl (λ c h. call_known p among.place k m i r.1 here c h)
+      let one = names among.place m r.1 k i here in
+      by m r.1 one.0 one.1 one.2 (λ c h. call_known p among.place k m i r.1 here c h)
     where
-      by : (m : LaidMethod) → slice_get p.methods among.place ≡ Some m → slice_get m.code.insns k ≡ Some i
-          → (o : Option Method) → method_at p.files m.member ≡ o → ((c : Callee) → operation i ≡ Call c → KnownCall c)
-          → Known (operation i)
-      by m at_m here None none calls =
-          let written_so = is.methods among.place m at_m in
-          let nothing : m.code.insns ≡ [] = ap (λ (x : Rattle.cjc_ncode.specs.declared.narrow.NMethod.NMethod). x.insns)
-          (written_so.code ∙ ap (code_by p.files (near_fields (pool p)) rows m.member) none) in
-          let never : None ≡ Some i = ap (λ xs. slice_get xs k) (sym nothing) ∙ here in
+      by : (m : LaidMethod) → slice_get p.methods among.place ≡ Some m → (from : Method)
+          → method_at p.files m.member ≡ Some from → NamesAsWritten (resolution p.files near from.id.class) from.insns i
+          → ((c : Callee) → operation i ≡ Call c → KnownCall c) → Known (operation i)
+      by m at_m from some (no_key none) calls = no_key_known i none
+      by m at_m from some (as_written j l n role place has is) calls =
+          at (written_as role (resolution p.files near from.id.class) place n.op) l i
+          (role_known near from.id.class (λ _. role) place n (there among.place m at_m from some j n has)) is calls
+
+  -- ---- code that is selected
+
+  -- what is selected for a method names as it is written
+  pub selected_names : {A : Type 0} (near : List MemberId) (rows : Method → List (Option A)) (from : Method) (k : ℕ)
+      (i : NInsn) → slice_get (code_of p.files near rows from).insns k ≡ Some i
+      → NamesAsWritten (resolution p.files near from.id.class) from.insns i
+  unfolding with_pairs
+  selected_names near rows from k i e =
+      let r = resolution p.files near from.id.class in
+      let kept = reached from.insns (rows from) in
+      let b = read_of from (flags_of (method_found w from.id)) in
+      let fs = has_rows (rows from) in
+      let role_at = role_in from.insns (roles_of r b fs) in
+      let place = place_in (with_pairs r b fs) kept in
+      let code : (code_of p.files near rows from).insns
+      ≡ flat_map (λ (j : JInsn). written_as (role_at j.at) r place j.op) kept =
+      ap (λ (f : JInsn → List NInsn). flat_map f kept) (λ t j. written_as_same r role_at (role_at j.at) place j.op t) in
+      let one = flat_from (λ (j : JInsn). written_as (role_at j.at) r place j.op) kept k i
+      (ap (λ xs. slice_get xs k) (sym code) ∙ e) in
+      let n = reached_of from.insns (rows from) one.0 one.1 one.2 in
+      as_written n.0 one.3.0 one.1 (role_at one.1.at) place n.1 one.3.1
+
+  pub code_names : {A : Type 0} (list : ListTree) (codes : List MethodCode) (rows : Method → List (Option A))
+      → IsPackage list p.files codes rows p → CodeNamesAsWritten p (near_fields (pool p))
+  code_names {A = A} list codes rows is k m at_m j i here = by (method_at p.files m.member) refl
+    where
+      code_is : (o : Option Method) → method_at p.files m.member ≡ o
+          → m.code ≡ code_by p.files (near_fields (pool p)) rows m.member o
+      code_is o e = let written_so = is.methods k m at_m in
+          written_so.code ∙ ap (code_by p.files (near_fields (pool p)) rows m.member) e
+
+      by : (o : Option Method) → method_at p.files m.member ≡ o → (from : Method)
+          × (method_at p.files m.member ≡ Some from)
+          × NamesAsWritten (resolution p.files (near_fields (pool p)) from.id.class) from.insns i
+      by None none =
+          let never : None ≡ Some i = ap (λ (x : NMethod). slice_get x.insns j) (sym (code_is None none)) ∙ here in
           absurd (cc)
-      by m at_m here (Some from) some calls =
-          let written_so = is.methods among.place m at_m in
-          let near = near_fields (pool p) in
-          let r = resolution p.files near from.id.class in
-          let kept = reached from.insns (rows from) in
-          let b = read_of from (flags_of (method_found w from.id)) in
-          let fs = has_rows (rows from) in
-          let role_at = role_in from.insns (roles_of r b fs) in
-          let place = place_in (with_pairs r b fs) kept in
-          let code : m.code.insns ≡ flat_map (λ (j : JInsn). written_as (role_at j.at) r place j.op) kept =
-          ap (λ (x : Rattle.cjc_ncode.specs.declared.narrow.NMethod.NMethod). x.insns) (written_so.code
-          ∙ ap (code_by p.files near rows m.member) some)
-          ∙ ap (λ (f : JInsn → List NInsn). flat_map f kept) (λ t j. written_as_same r role_at (role_at j.at) place j.op
-          t) in
-          at (flat_map (λ (j : JInsn). written_as (role_at j.at) r place j.op) kept) k i
-          (code_known near from.id.class role_at place kept (λ j o h. let n = reached_of from.insns (rows from) j o
-          h in there among.place m at_m from some n.0 o n.1))
-          (ap (λ xs. slice_get xs k) (sym code) ∙ here) calls
+      by (Some from) some = (
+        from,
+        some,
+        selected_names (near_fields (pool p)) rows from j i
+            (ap (λ (x : NMethod). slice_get x.insns j) (sym (code_is (Some from) some)) ∙ here),
+      )

@@ -107,12 +107,6 @@ abbrev pub classes_token : MemberId → List Class → Option (Option ℕ)
 classes_token id [] = None
 classes_token id (d ∷ ds) = or_else (class_token id d) (classes_token id ds)
 
-classes_both : (id : MemberId) (ds fs : List Class) → classes_token id (ds ++ fs) ≡ or_else (classes_token id ds)
-    (classes_token id fs)
-classes_both id [] fs = refl
-classes_both id (d ∷ ds) fs = ap (or_else (class_token id d)) (classes_both id ds fs)
-    ∙ sym (else_assoc (class_token id d) (classes_token id ds) (classes_token id fs))
-
 -- a class of an export file says what the file lists
 pub listed_is : (id : MemberId) (k : ℕ) (e : ExportClass) → ((j : ℕ) (m : ExportMethod)
     → Rattle.std.specs.Prelude.slice_get e.methods j ≡ Some m → is_initialiser m.name ≡ true → is_static m.flags ≡ true)
@@ -135,43 +129,67 @@ listed_is id k e plain = by e.methods plain
         split true rest = ap (λ b. Some (if b then Some m.token else None)) (export_virtual m (all 0 m refl))
         split false rest = rest
 
-module _ (p : Package) (facts : Facts p) (id : MemberId) where
+-- the first answer of classes of export files, and of classes
+abbrev pub first_file : {A : Type 0} → (ExportClass → Option A) → List ExportClass → Option A
+first_file answer [] = None
+first_file answer (u ∷ us) = or_else (answer u) (first_file answer us)
+
+abbrev pub first_class : {A : Type 0} → (Class → Option A) → List Class → Option A
+first_class answer [] = None
+first_class answer (d ∷ ds) = or_else (answer d) (first_class answer ds)
+
+first_both : {A : Type 0} (answer : Class → Option A) (ds fs : List Class) → first_class answer (ds ++ fs)
+    ≡ or_else (first_class answer ds) (first_class answer fs)
+first_both answer [] fs = refl
+first_both answer (d ∷ ds) fs = ap (or_else (answer d)) (first_both answer ds fs)
+    ∙ sym (else_assoc (answer d) (first_class answer ds) (first_class answer fs))
+
+files_token_is : (id : MemberId) (us : List ExportClass) → token_in_files us id ≡ first_file (λ (u : ExportClass).
+    listed_token u.methods id) us
+files_token_is id [] = refl
+files_token_is id (u ∷ us) = ap (or_else (listed_token u.methods id)) (files_token_is id us)
+
+classes_token_is : (id : MemberId) (ds : List Class) → first_class (class_token id) ds ≡ classes_token id ds
+classes_token_is id [] = refl
+classes_token_is id (d ∷ ds) = ap (or_else (class_token id d)) (classes_token_is id ds)
+
+-- What classes answer, and what the classes of export files answer alike.
+module _ {A : Type 0} (p : Package) (facts : Facts p) (of_file : ExportClass → Option A) (answer : Class → Option A)
+    (alike : (y : List ℕ) (k : ℕ) (e : ExportClass) → exports.class_named (exported p) y ≡ Some e → of_file e
+    ≡ answer (imported k e)) where
   abbrev w : List Class
   w = world p
 
   abbrev es : List ExportClass
   es = exported p
 
-  abbrev files_token : List ExportClass → Option (Option ℕ)
-  files_token us = token_in_files us id
-
   -- what the classes of a tree say, over supers
-  abbrev tree_token : Supertypes → Option (Option ℕ)
-  tree_token k = classes_token id (supertype_trees.upwards k)
+  abbrev tree_answer : Supertypes → Option A
+  tree_answer k = first_class answer (supertype_trees.upwards k)
 
-  known_token : (c : Class) (supers interfaces next : Supertypes) → tree_token (Known c supers interfaces next)
-      ≡ or_else (class_token id c) (or_else (tree_token supers) (tree_token next))
-  known_token c supers interfaces next =
-      ap (or_else (class_token id c)) (classes_both id (supertype_trees.upwards supers) (supertype_trees.upwards next))
+  known_answer : (c : Class) (supers interfaces next : Supertypes) → tree_answer (Known c supers interfaces next)
+      ≡ or_else (answer c) (or_else (tree_answer supers) (tree_answer next))
+  known_answer c supers interfaces next =
+      ap (or_else (answer c)) (first_both answer (supertype_trees.upwards supers) (supertype_trees.upwards next))
 
   -- ---- trees of one name
 
-  unknown_alone : (x : List ℕ) → class_named w x ≡ None → tree_token (supertypes w (x ∷ [])) ≡ None
-  unknown_alone x none = ap tree_token (facts.one_supertypes (x ∷ []) (supertypes w (x ∷ [])) (Unknown x End)
+  unknown_alone : (x : List ℕ) → class_named w x ≡ None → tree_answer (supertypes w (x ∷ [])) ≡ None
+  unknown_alone x none = ap tree_answer (facts.one_supertypes (x ∷ []) (supertypes w (x ∷ [])) (Unknown x End)
       (facts.are_supertypes (x ∷ [])) (unknown_here none ends))
 
   known_alone : (x : List ℕ) (c : Class) (supers interfaces : Supertypes) → class_named w x ≡ Some c
-      → AreSupertypes w c.supers supers → AreSupertypes w c.interfaces interfaces → tree_token (supertypes w (x ∷ []))
-      ≡ or_else (class_token id c) (tree_token supers)
+      → AreSupertypes w c.supers supers → AreSupertypes w c.interfaces interfaces → tree_answer (supertypes w (x ∷ []))
+      ≡ or_else (answer c) (tree_answer supers)
   known_alone x c supers interfaces e ks ki =
-      ap tree_token (facts.one_supertypes (x ∷ []) (supertypes w (x ∷ [])) (Known c supers interfaces End)
+      ap tree_answer (facts.one_supertypes (x ∷ []) (supertypes w (x ∷ [])) (Known c supers interfaces End)
       (facts.are_supertypes (x ∷ [])) (known_here e ks ki ends))
-      ∙ known_token c supers interfaces End
-      ∙ ap (or_else (class_token id c)) (else_none (tree_token supers))
+      ∙ known_answer c supers interfaces End
+      ∙ ap (or_else (answer c)) (else_none (tree_answer supers))
 
   -- what stands in a tree without the method has none itself
-  subtree : (xs : List (List ℕ)) (k : Supertypes) → AreSupertypes w xs k → tree_token k ≡ None → (z : List ℕ)
-      → stands_by_supers z k ≡ true → tree_token (supertypes w (z ∷ [])) ≡ None
+  subtree : (xs : List (List ℕ)) (k : Supertypes) → AreSupertypes w xs k → tree_answer k ≡ None → (z : List ℕ)
+      → stands_by_supers z k ≡ true → tree_answer (supertypes w (z ∷ [])) ≡ None
   subtree xs k ends none z s = absurd (cc)
   subtree xs k (unknown_here {x = x} {next = next} nowhere rest) none z s =
       elim (or_cases (bytes_eq x z) (stands_by_supers z next) s) [
@@ -180,15 +198,16 @@ module _ (p : Package) (facts : Facts p) (id : MemberId) where
       ]
   subtree xs k (known_here {x = x} {c = c} {supers = supers} {interfaces = interfaces} {next = next} e ks ki kn) none z
       s =
-      let parts = both_none (class_token id c) (or_else (tree_token supers) (tree_token next))
-      (sym (known_token c supers interfaces next) ∙ none) in
-      let two = both_none (tree_token supers) (tree_token next) parts.1 in
+      let parts = both_none (answer c) (or_else (tree_answer supers) (tree_answer next))
+      (sym (known_answer c supers interfaces next) ∙ none) in
+      let two = both_none (tree_answer supers) (tree_answer next) parts.1 in
       elim (or_cases (bytes_eq c.name z || stands_by_supers z supers) (stands_by_supers z next) s) [
         | inl h ↦ elim (or_cases (bytes_eq c.name z) (stands_by_supers z supers) h) [
           | inl same ↦ (
               let named_z : class_named w z ≡ Some c = ap (class_named w) (sym (bytes_tell c.name z same)
               ∙ class_named-name w x c e) ∙ e in
-              known_alone z c supers interfaces named_z ks ki ∙ ap (λ o. or_else o (tree_token supers)) parts.0 ∙ two.0)
+              known_alone z c supers interfaces named_z ks ki ∙ ap (λ o. or_else o (tree_answer supers)) parts.0 ∙
+              two.0)
           | inr g ↦ subtree c.supers supers ks two.0 z g
         ]
         | inr g ↦ subtree _ next kn two.1 z g
@@ -242,25 +261,26 @@ module _ (p : Package) (facts : Facts p) (id : MemberId) where
   -- a name that was passed and stands in the tree has no class above it with the method
   abbrev Clean : (passed : List (List ℕ)) → Supertypes → Type 0
   Clean passed k = (z : List ℕ) → is_one_of passed z ≡ true → stands_by_supers z k ≡ true
-      → tree_token (supertypes w (z ∷ [])) ≡ None
+      → tree_answer (supertypes w (z ∷ [])) ≡ None
 
   -- What is found upwards from the names of a tree and others: what the tree says, else what is found from the others.
-  record Walked (k : Supertypes) (passed names : List (List ℕ)) (o : Option (Option ℕ)) : Type 0 where
+  record Walked (k : Supertypes) (passed names : List (List ℕ)) (o : Option A) : Type 0 where
     fuel : ℕ
     gone : List (List ℕ)
     room : length names + weight gone es ≤ fuel
-    is : o ≡ or_else (tree_token k) (files_token (upwards_from es fuel gone names))
+    is : o ≡ or_else (tree_answer k) (first_file of_file (upwards_from es fuel gone names))
     from : (z : List ℕ) → is_one_of gone z ≡ true → (is_one_of passed z ≡ true) ⊎ (stands_by_supers z k ≡ true)
 
   -- where the tree says something, the others do not matter
-  found_there : (k : Supertypes) (passed gone names : List (List ℕ)) (o : Option (Option ℕ)) (v : Option ℕ) → o ≡ Some v
-      → tree_token k ≡ Some v → ((z : List ℕ) → is_one_of gone z ≡ true → (is_one_of passed z ≡ true)
+  found_there : (k : Supertypes) (passed gone names : List (List ℕ)) (o : Option A) (v : A) → o ≡ Some v
+      → tree_answer k ≡ Some v → ((z : List ℕ) → is_one_of gone z ≡ true → (is_one_of passed z ≡ true)
       ⊎ (stands_by_supers z k ≡ true)) → Walked k passed names o
   found_there k passed gone names o v here there from = record {
     fuel = length names + weight gone es;
     gone = gone;
     room = omega arith;
-    is = here ∙ sym (ap (λ q. or_else q (files_token (upwards_from es (length names + weight gone es) gone names)))
+    is = here ∙ sym (ap (λ q. or_else q (first_file of_file (upwards_from es (length names + weight gone es) gone
+        names)))
         there);
     from = from;
   }
@@ -278,7 +298,7 @@ module _ (p : Package) (facts : Facts p) (id : MemberId) where
 
   walk : (xs : List (List ℕ)) (k : Supertypes) → AreSupertypes w xs k → AllImported xs
       → (n : ℕ) (passed names : List (List ℕ)) → length (xs ++ names) + weight passed es ≤ n → Clean passed k
-      → Walked k passed names (files_token (upwards_from es n passed (xs ++ names)))
+      → Walked k passed names (first_file of_file (upwards_from es n passed (xs ++ names)))
   unfolding upwards_from
   walk xs k ends own n passed names room clean = record {
     fuel = n;
@@ -313,8 +333,8 @@ module _ (p : Package) (facts : Facts p) (id : MemberId) where
       ]
 
       by : ((gone : List (List ℕ)) → length (xs' ++ names) + weight gone es ≤ n → Clean gone next
-          → Walked next gone names (files_token (upwards_from es n gone (xs' ++ names))))
-          → (t : Bool) → is_one_of passed x ≡ t → Walked (Unknown x next) passed names (files_token (if t
+          → Walked next gone names (first_file of_file (upwards_from es n gone (xs' ++ names))))
+          → (t : Bool) → is_one_of passed x ≡ t → Walked (Unknown x next) passed names (first_file of_file (if t
           then upwards_from es n passed (xs' ++ names) else with_class (exports.class_named es x) (xs'
           ++ names) (λ more. upwards_from es n (x ∷ passed) more)))
       by on true here =
@@ -332,7 +352,8 @@ module _ (p : Package) (facts : Facts p) (id : MemberId) where
             fuel = r.fuel;
             gone = r.gone;
             room = r.room;
-            is = ap (λ o. files_token (with_class o (xs' ++ names) (λ more. upwards_from es n (x ∷ passed) more)))
+            is = ap (λ o. first_file of_file (with_class o (xs' ++ names) (λ more. upwards_from es n (x ∷ passed)
+                more)))
                 (no_file x nowhere) ∙ r.is;
             from = λ z h. kept r.gone z (r.from z h);
           }
@@ -373,52 +394,54 @@ module _ (p : Package) (facts : Facts p) (id : MemberId) where
 
       -- it was passed: nothing above it has the method
       skipped : is_one_of passed x ≡ true
-          → Walked next passed names (files_token (upwards_from es n passed (xs' ++ names)))
-          → Walked (Known c supers interfaces next) passed names (files_token (upwards_from es n passed (xs' ++ names)))
+          → Walked next passed names (first_file of_file (upwards_from es n passed (xs' ++ names)))
+          → Walked (Known c supers interfaces next) passed names (first_file of_file (upwards_from es n passed (xs' ++
+          names)))
       skipped here r =
           let alone = sym (known_alone x c supers interfaces e ks ki) ∙ clean x here itself in
-          let parts = both_none (class_token id c) (tree_token supers) alone in
-          let same : tree_token (Known c supers interfaces next) ≡ tree_token next =
-          known_token c supers interfaces next ∙ ap (λ o. or_else o (or_else (tree_token supers) (tree_token next)))
-          parts.0 ∙ ap (λ o. or_else o (tree_token next)) parts.1 in
+          let parts = both_none (answer c) (tree_answer supers) alone in
+          let same : tree_answer (Known c supers interfaces next) ≡ tree_answer next =
+          known_answer c supers interfaces next ∙ ap (λ o. or_else o (or_else (tree_answer supers) (tree_answer next)))
+          parts.0 ∙ ap (λ o. or_else o (tree_answer next)) parts.1 in
           record {
             fuel = r.fuel;
             gone = r.gone;
             room = r.room;
             is = r.is
-                ∙ ap (λ o. or_else o (files_token (upwards_from es r.fuel r.gone names))) (sym same);
+                ∙ ap (λ o. or_else o (first_file of_file (upwards_from es r.fuel r.gone names))) (sym same);
             from = λ z h. elim (r.from z h) [ inl there ↦ inl there | inr g ↦ inr (in_next z g) ];
           }
 
       -- it is met, and has no such method itself
-      visited : is_one_of passed x ≡ false → class_token id c ≡ None → Walked supers (x ∷ passed) (xs'
-          ++ names) (files_token (upwards_from es n (x ∷ passed) (c.supers ++ (xs' ++ names))))
+      visited : is_one_of passed x ≡ false → answer c ≡ None → Walked supers (x ∷ passed) (xs'
+          ++ names) (first_file of_file (upwards_from es n (x ∷ passed) (c.supers ++ (xs' ++ names))))
           → ((gone : List (List ℕ)) (m : ℕ) → length (xs' ++ names) + weight gone es ≤ m → Clean gone next
-          → Walked next gone names (files_token (upwards_from es m gone (xs' ++ names))))
-          → Walked (Known c supers interfaces next) passed names (files_token (upwards_from es n (x ∷ passed) (c.supers
+          → Walked next gone names (first_file of_file (upwards_from es m gone (xs' ++ names))))
+          → Walked (Known c supers interfaces next) passed names (first_file of_file (upwards_from es n (x ∷ passed)
+          (c.supers
           ++ (xs' ++ names))))
-      visited out none r onwards_from = split (tree_token supers) refl
+      visited out none r onwards_from = split (tree_answer supers) refl
         where
           gone_from : (z : List ℕ) → is_one_of r.gone z ≡ true → (is_one_of passed z ≡ true)
               ⊎ (stands_by_supers z (Known c supers interfaces next) ≡ true)
           gone_from z h = elim (r.from z h) [ inl there ↦ passed_more z there | inr g ↦ inr (in_supers z g) ]
 
-          split : (o : Option (Option ℕ)) → tree_token supers ≡ o → Walked (Known c supers interfaces next) passed names
-              (files_token (upwards_from es n (x ∷ passed) (c.supers ++ (xs' ++ names))))
+          split : (o : Option A) → tree_answer supers ≡ o → Walked (Known c supers interfaces next) passed names
+              (first_file of_file (upwards_from es n (x ∷ passed) (c.supers ++ (xs' ++ names))))
           split (Some v) has =
               found_there (Known c supers interfaces next) passed r.gone names
-              (files_token (upwards_from es n (x ∷ passed) (c.supers ++ (xs' ++ names)))) v
-              (r.is ∙ ap (λ o. or_else o (files_token (upwards_from es r.fuel r.gone (xs' ++ names)))) has)
-              (known_token c supers interfaces next
-              ∙ ap (λ o. or_else o (or_else (tree_token supers) (tree_token next))) none
-              ∙ ap (λ o. or_else o (tree_token next)) has)
+              (first_file of_file (upwards_from es n (x ∷ passed) (c.supers ++ (xs' ++ names)))) v
+              (r.is ∙ ap (λ o. or_else o (first_file of_file (upwards_from es r.fuel r.gone (xs' ++ names)))) has)
+              (known_answer c supers interfaces next
+              ∙ ap (λ o. or_else o (or_else (tree_answer supers) (tree_answer next))) none
+              ∙ ap (λ o. or_else o (tree_answer next)) has)
               gone_from
           split None has =
-              let alone : tree_token (supertypes w (x ∷ [])) ≡ None = known_alone x c supers interfaces e ks ki
-              ∙ ap (λ o. or_else o (tree_token supers)) none ∙ has in
+              let alone : tree_answer (supertypes w (x ∷ [])) ≡ None = known_alone x c supers interfaces e ks ki
+              ∙ ap (λ o. or_else o (tree_answer supers)) none ∙ has in
               let clean_next : Clean r.gone next = λ z h g. elim (r.from z h) [
                 | inl there ↦ elim (one_cases x passed z there) [
-                  | inl same ↦ ap (λ y. tree_token (supertypes w (y ∷ []))) (sym same) ∙ alone
+                  | inl same ↦ ap (λ y. tree_answer (supertypes w (y ∷ []))) (sym same) ∙ alone
                   | inr f ↦ clean z f (in_next z g)
                 ]
                 | inr f ↦ subtree c.supers supers ks has z f
@@ -428,24 +451,26 @@ module _ (p : Package) (facts : Facts p) (id : MemberId) where
                 fuel = q.fuel;
                 gone = q.gone;
                 room = q.room;
-                is = r.is ∙ ap (λ o. or_else o (files_token (upwards_from es r.fuel r.gone (xs' ++ names)))) has ∙ q.is
-                    ∙ ap (λ o. or_else o (files_token (upwards_from es q.fuel q.gone names)))
-                    (sym (known_token c supers interfaces next
-                    ∙ ap (λ o. or_else o (or_else (tree_token supers) (tree_token next))) none
-                    ∙ ap (λ o. or_else o (tree_token next)) has));
+                is = r.is ∙ ap (λ o. or_else o (first_file of_file (upwards_from es r.fuel r.gone (xs' ++ names)))) has
+                    ∙ q.is
+                    ∙ ap (λ o. or_else o (first_file of_file (upwards_from es q.fuel q.gone names)))
+                    (sym (known_answer c supers interfaces next
+                    ∙ ap (λ o. or_else o (or_else (tree_answer supers) (tree_answer next))) none
+                    ∙ ap (λ o. or_else o (tree_answer next)) has));
                 from = λ z h. elim (q.from z h) [ inl there ↦ gone_from z there | inr g ↦ inr (in_next z g) ];
               }
 
       by : ((gone : List (List ℕ)) (m : ℕ) → length (xs' ++ names) + weight gone es ≤ m → Clean gone next
-          → Walked next gone names (files_token (upwards_from es m gone (xs' ++ names))))
+          → Walked next gone names (first_file of_file (upwards_from es m gone (xs' ++ names))))
           → (length (c.supers ++ (xs' ++ names)) + weight (x ∷ passed) es ≤ n → Clean (x ∷ passed) supers
-          → Walked supers (x ∷ passed) (xs' ++ names) (files_token (upwards_from es n (x ∷ passed) (c.supers
+          → Walked supers (x ∷ passed) (xs' ++ names) (first_file of_file (upwards_from es n (x ∷ passed) (c.supers
           ++ (xs' ++ names)))))
           → (t : Bool) → is_one_of passed x ≡ t → Walked (Known c supers interfaces next) passed names
-          (files_token (if t then upwards_from es n passed (xs' ++ names) else with_class (exports.class_named es x)
+          (first_file of_file (if t then upwards_from es n passed (xs' ++ names) else with_class (exports.class_named es
+          x)
           (xs' ++ names) (λ more. upwards_from es n (x ∷ passed) more)))
       by on up true here = skipped here (on passed n (omega (arith, room)) (λ z h g. clean z h (in_next z g)))
-      by on up false out = split (class_token id c) refl
+      by on up false out = split (answer c) refl
         where
           file : (j : ℕ) × (u : ExportClass) × (exports.class_named es x ≡ Some u) × (c ≡ imported j u)
           file = facts.in_file x c e import
@@ -453,14 +478,16 @@ module _ (p : Package) (facts : Facts p) (id : MemberId) where
           supers_are : file.1.supers ≡ c.supers
           supers_are = ap (λ (q : Class). q.supers) (sym file.3)
 
-          met : files_token (with_class (exports.class_named es x) (xs' ++ names) (λ more. upwards_from es n (x
-              ∷ passed) more)) ≡ or_else (class_token id c) (files_token (upwards_from es n (x ∷ passed) (c.supers
+          met : first_file of_file (with_class (exports.class_named es x) (xs' ++ names) (λ more. upwards_from es n (x
+              ∷ passed) more)) ≡ or_else (answer c) (first_file of_file (upwards_from es n (x ∷ passed) (c.supers
               ++ (xs' ++ names))))
           met =
-              ap (λ o. files_token (with_class o (xs' ++ names) (λ more. upwards_from es n (x ∷ passed) more))) file.2
-              ∙ ap (λ o. or_else o (files_token (upwards_from es n (x ∷ passed) (file.1.supers ++ (xs' ++ names)))))
-              (listed_is id file.0 file.1 (facts.plain x file.1 file.2) ∙ ap (class_token id) (sym file.3))
-              ∙ ap (λ ss. or_else (class_token id c) (files_token (upwards_from es n (x ∷ passed) (ss
+              ap (λ o. first_file of_file (with_class o (xs' ++ names) (λ more. upwards_from es n (x ∷ passed) more)))
+              file.2
+              ∙ ap (λ o. or_else o (first_file of_file (upwards_from es n (x ∷ passed) (file.1.supers ++ (xs' ++
+              names)))))
+              (alike x file.0 file.1 file.2 ∙ ap answer (sym file.3))
+              ∙ ap (λ ss. or_else (answer c) (first_file of_file (upwards_from es n (x ∷ passed) (ss
               ++ (xs' ++ names))))) supers_are
 
           enough : length (c.supers ++ (xs' ++ names)) + weight (x ∷ passed) es ≤ n
@@ -476,14 +503,16 @@ module _ (p : Package) (facts : Facts p) (id : MemberId) where
             | inr there ↦ clean z there (in_supers z g)
           ]
 
-          split : (o : Option (Option ℕ)) → class_token id c ≡ o → Walked (Known c supers interfaces next) passed names
-              (files_token (with_class (exports.class_named es x) (xs' ++ names) (λ more. upwards_from es n (x ∷ passed)
+          split : (o : Option A) → answer c ≡ o → Walked (Known c supers interfaces next) passed names
+              (first_file of_file (with_class (exports.class_named es x) (xs' ++ names) (λ more. upwards_from es n (x ∷
+              passed)
               more)))
           split (Some v) has =
               found_there (Known c supers interfaces next) passed (x ∷ passed) names _ v (met
-              ∙ ap (λ o. or_else o (files_token (upwards_from es n (x ∷ passed) (c.supers ++ (xs' ++ names))))) has)
-              (known_token c supers interfaces next
-              ∙ ap (λ o. or_else o (or_else (tree_token supers) (tree_token next))) has) passed_more
+              ∙ ap (λ o. or_else o (first_file of_file (upwards_from es n (x ∷ passed) (c.supers ++ (xs' ++ names)))))
+              has)
+              (known_answer c supers interfaces next
+              ∙ ap (λ o. or_else o (or_else (tree_answer supers) (tree_answer next))) has) passed_more
           split None has =
               let r = visited out has (up enough clean_supers) on in
               record {
@@ -491,25 +520,37 @@ module _ (p : Package) (facts : Facts p) (id : MemberId) where
                 gone = r.gone;
                 room = r.room;
                 is = met
-                    ∙ ap (λ o. or_else o (files_token (upwards_from es n (x ∷ passed) (c.supers ++ (xs' ++ names)))))
+                    ∙ ap (λ o. or_else o (first_file of_file (upwards_from es n (x ∷ passed) (c.supers ++ (xs' ++
+                    names)))))
                     has
                     ∙ r.is;
                 from = r.from;
               }
 
-  nothing_upwards : (n : ℕ) (passed : List (List ℕ)) → files_token (upwards_from es n passed []) ≡ None
+  nothing_upwards : (n : ℕ) (passed : List (List ℕ)) → first_file of_file (upwards_from es n passed []) ≡ None
   unfolding upwards_from
   nothing_upwards zero passed = refl
   nothing_upwards (suc n) passed = refl
 
   -- What is listed first upwards from some names is what the first class above them says.
-  pub upwards_token : (names : List (List ℕ)) → AllImported names → token_in_files (exports.upwards es names) id
-      ≡ classes_token id (supertype_trees.upwards (supertypes w names))
-  upwards_token names own =
+  pub upwards_first : (names : List (List ℕ)) → AllImported names → first_file of_file (exports.upwards es names)
+      ≡ first_class answer (supertype_trees.upwards (supertypes w names))
+  upwards_first names own =
       let r = walk names (supertypes w names) (facts.are_supertypes names) own (length names + super_count es) [] []
       (let same = append-nil names in let long = ap length same in let all = weight_is es
       in omega (arith, long, all)) (λ z h g. absurd (cc)) in
-      ap (λ ns. files_token (upwards_from es (length names + super_count es) [] ns)) (sym (append-nil names))
+      ap (λ ns. first_file of_file (upwards_from es (length names + super_count es) [] ns)) (sym (append-nil names))
       ∙ r.is
-      ∙ ap (or_else (tree_token (supertypes w names))) (nothing_upwards r.fuel r.gone)
-      ∙ else_none (tree_token (supertypes w names))
+      ∙ ap (or_else (tree_answer (supertypes w names))) (nothing_upwards r.fuel r.gone)
+      ∙ else_none (tree_answer (supertypes w names))
+
+-- so it is with the token of a method
+pub upwards_token : (p : Package) (facts : Facts p) (id : MemberId) (names : List (List ℕ)) → ((x : List ℕ) (d : Class)
+    → Lists x names → class_named (world p) x ≡ Some d → d.is_imported ≡ true)
+    → token_in_files (exports.upwards (exported p) names) id ≡ classes_token id (supertype_trees.upwards (supertypes
+    (world p) names))
+upwards_token p facts id names own =
+    files_token_is id (exports.upwards (exported p) names)
+    ∙ upwards_first p facts (λ (u : ExportClass). listed_token u.methods id) (class_token id)
+    (λ y k e named. listed_is id k e (facts.plain y e named)) names own
+    ∙ classes_token_is id (supertype_trees.upwards (supertypes (world p) names))

@@ -9,17 +9,18 @@ use Rattle.cjc_card_semantics.specs.Machine.Methods.{is_class_at}
 use Rattle.cjc_components.specs.Methods.{first_method, method_offset, method_size, placed_at}
 use Rattle.cjc_components.specs.Names.{class_ref}
 use Rattle.cjc_components.specs.Package.{LaidMethod, Package, pool, world}
-use Rattle.cjc_components.specs.Written.{is_abstract_at}
+use Rattle.cjc_components.specs.Written.{added_words, is_abstract_at}
 use Rattle.cjc_components.specs.LowerLayout.Handlers.{table_order}
 use Rattle.cjc_ncode.specs.Lowering.Handlers.{AllLie}
 use Rattle.cjc_ncode.specs.Lowering.Naming.{Naming}
 use Rattle.cjc_ncode.specs.Lowering.Placed.{IsLaidOut, Placed}
-use Rattle.cjc_components.specs.LowerNarrow.Rows.Package.{code_of}
+use Rattle.cjc_components.specs.LowerNarrow.Rows.Package.{code_of, flags_of}
+use Rattle.cjc_components.specs.LowerNarrow.Rows.Resolved.{argument_words, method_found}
 use Rattle.cjc_components.specs.LowerNarrow.Rows.Selected.{near_fields}
 use Rattle.cjc_ncode.specs.PoolOrder.{same_member}
 use Rattle.cjc_ncode.specs.declared.narrow.NMethod.{NMethod}
 use Rattle.cjc_world.specs.declared.found.Found.{Found}
-use Rattle.cjc_world.specs.Classes.{Class}
+use Rattle.cjc_world.specs.Classes.{Class, class_at}
 use Rattle.cjc_world.specs.Files.{Files}
 use Rattle.cjc_world.specs.Order.{in_order, method_order}
 use Rattle.cjc_token_proof.specs.Tables.Loading.{naming, part}
@@ -86,6 +87,16 @@ pub record AreMethods (p : Package) : Type 0 where
   pub members : map (λ m. m.member) p.methods ≡ method_order (world p)
   pub is_abstract : (k : ℕ) (m : LaidMethod) → slice_get p.methods k ≡ Some m
       → m.is_abstract ≡ is_abstract_at p.files m.member
+
+-- The code of each method takes as many words of arguments as its flags and its descriptor say; so does a method that
+-- its class got.
+pub record TakeTheirWords (p : Package) : Type 0 where
+  pub declared : (k : ℕ) (m : LaidMethod) → slice_get p.methods k ≡ Some m → (x : Method) → method_at p.files m.member
+      ≡ Some x → (let code = m.code in code.nargs) ≡ (let id = x.id in argument_words (flags_of (method_found (world p)
+      id)) id.desc)
+  pub added : (k : ℕ) (m : LaidMethod) → slice_get p.methods k ≡ Some m → method_at p.files m.member ≡ None
+      → (let code = m.code in code.nargs) ≡ (let f = m.member in added_words (world p) f (class_at (world p) f.imported
+      f.class))
 
 -- No two methods of class files have one class, name and descriptor.
 abbrev pub HaveOwnIds : Package → Type 0

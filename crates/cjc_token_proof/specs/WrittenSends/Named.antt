@@ -20,10 +20,12 @@ use Rattle.cjc_world_proof.specs.Bytecode.declared.insn.JOp.TheVariants as jop
 use Rattle.cjc_components.specs.Package.{LaidMethod, Package, world}
 use Rattle.cjc_ncode.specs.Lowering.Agreement.{Cells, KnownNames, known_by}
 use Rattle.cjc_components.specs.LowerNarrow.Rows.Package.{fault_name}
-use Rattle.cjc_components.specs.LowerNarrow.Rows.Resolved.{constant_named, resolved_field}
+use Rattle.cjc_components.specs.LowerNarrow.Rows.Resolved.{constant_named, resolution, resolved_field}
 use Rattle.cjc_ncode.specs.ByLabel.{Callee, Fixed, OnInterface, OnObject, OnSuper, Resolved, operation}
-use Rattle.cjc_ncode.specs.PoolOrder.{same_member}
+use Rattle.cjc_ncode.specs.PoolOrder.{insn_keys, same_member}
+use Rattle.cjc_ncode.specs.Written.{Resolution, written_as}
 use Rattle.cjc_ncode.specs.declared.narrow.NInsn.{NInsn}
+use Rattle.cjc_ncode.specs.declared.narrow.PairRole.{PairRole}
 use Rattle.cjc_script.specs.Sorts.{Shape, field_sort, shape_named}
 use Rattle.cjc_token_proof.specs.Tables.Known.{known_names, may_name, order_of}
 use Rattle.cjc_world.specs.Classes.{Class, all_classes, class_named}
@@ -106,3 +108,21 @@ abbrev pub FaultsAreClasses : List Class → Type 0
 FaultsAreClasses w =
     (fault : Fault) (c : Class) → class_named w (fault_name fault) ≡ Some c → (c.is_imported ≡ true)
     × (is_interface c.flags ≡ false)
+
+-- ---- code
+
+-- An instruction names nothing, or it is one that is written outside int mode for one of these instructions of a class
+-- file: in some role, and wherever its labels are.
+pub data NamesAsWritten (r : Resolution) (insns : List JInsn) (i : NInsn) : Type 0 where
+  no_key : insn_keys i ≡ [] → NamesAsWritten r insns i
+  as_written : (k j : ℕ) (n : JInsn) (role : PairRole) (place : ℕ → ℕ) → slice_get insns k ≡ Some n
+      → slice_get (written_as role r place n.op) j ≡ Some i → NamesAsWritten r insns i
+
+-- So do all instructions of the methods of a package, each for those of its method in the class file, where these
+-- instance fields have an index of one byte.
+abbrev pub CodeNamesAsWritten : Package → (near : List MemberId) → Type 0
+CodeNamesAsWritten p near =
+    (k : ℕ) (m : LaidMethod) → slice_get p.methods k ≡ Some m → (j : ℕ) (i : NInsn)
+    → (let code = m.code in slice_get code.insns j ≡ Some i) → (from : Method)
+    × (method_at p.files m.member ≡ Some from)
+    × NamesAsWritten (resolution p.files near (let id = from.id in id.class)) from.insns i

@@ -1,33 +1,15 @@
 use Rattle.cjc_accepted_theorem.proofs.HeadersLaws.{headers_fit}
 use Rattle.cjc_accepted_theorem.proofs.headers.converted_packages_have_fit_headers.Goals as goal
-use Rattle.cjc_verified_proof.specs.Bytecode.PackageCodes.{all_codes}
 use Rattle.cjc_theorem.proofs.ShapeProofFiles.{files_sound}
 use Rattle.cjc_verified_proof.proofs.TokenProofOrder.{own_names}
-use Rattle.cjc_verified_proof.proofs.TokenProofWrittenCallsIds.{own_ids}
-use Rattle.cjc_verified_proof.proofs.TokenProofWrittenCallsKnown.{classes_stand}
-use Rattle.cjc_verified_proof.proofs.TokenProofWrittenCallsOffsets.{methods_begin}
-use Rattle.cjc_verified_proof.proofs.TokenProofWrittenCallsWords.{added_begins, counts_from}
 
 pub returns : goal.returns
 returns c = λ list files judged p is.
-    let opcodes = c.calls_have_opcodes.ensures list files judged is.sound in
-    let there = c.names_are_there.ensures.all list files judged p is opcodes in
-    let ready = c.converted_methods_are_ready.ensures list files judged p is there in
-    let order = c.converted_methods_are_in_order.ensures list files judged p is in
-    let forms = c.layouts_are_laid_out.ensures.forms in
-    let offsets = c.layouts_are_laid_out.ensures.offsets in
-    let sound = files_sound list files judged p is in
-    let ids = own_ids list.name p sound in
-    let stand = classes_stand list.name p sound in
     let its = c.converted_methods_are_consistent.ensures in
     let methods = its.methods list files judged p is in
     let written = its.written list files judged p is in
-    let names = own_names list.name p.files sound in
-    let codes = (let w = p.files in all_codes w.classes) in
-    let laid = is.is_package in
-    headers_fit list files judged p is (methods_begin forms offsets p ready order ids stand)
-    (counts_from list p.files codes laid.rows p laid.is_package forms offsets ready order ids stand)
-    (added_begins list p.files codes laid.rows p laid.is_package forms offsets ready order ids stand)
+    let names = own_names list.name p.files (files_sound list files judged p is) in
+    headers_fit list files judged p is (c.converted_methods_begin.ensures list files judged p is)
     (c.methods_are_cut.ensures.whole p names methods written)
     (c.jumps_land_in_code.ensures p names methods written (its.inside list files judged p is))
     (c.converted_packages_have_card_types.ensures list files judged p is)

@@ -24,7 +24,7 @@ use Rattle.cjc_tokens.specs.Methods.{interfaces_at, interface_methods}
 use Rattle.cjc_components.specs.LowerCheckRules.Spots.{placed}
 use Rattle.cjc_capwrite.specs.CapRead.Opcodes.{forms, form}
 use Rattle.cjc_capwrite.specs.Class.{interface_bytes, implemented_bytes, class_entry_bytes, class_info_bytes}
-use Rattle.cjc_card_semantics.specs.Bytecode.Meanings.{meaning}
+use Rattle.cjc_components.specs.LowerCardSemantics.Bytecode.Meanings.{meaning}
 use Rattle.cjc_capwrite.specs.Method.{handler_bytes, method_bytes}
 use Rattle.cjc_examples.proofs.components.added_methods_are_written.Goals as goal
 

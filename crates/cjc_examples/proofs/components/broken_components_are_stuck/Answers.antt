@@ -6,8 +6,8 @@ use Rattle.cjc_bytes.specs.Found.{each}
 use Rattle.cjc_bytes.specs.Spots.{desc_of, parts_of, bad_at, after, types_from}
 use Rattle.cjc_capwrite.specs.CapRead.Opcodes.{forms, form}
 use Rattle.cjc_world.specs.ExportFile.Supers.{upwards_from}
-use Rattle.cjc_card_semantics.specs.Bytecode.Meanings.{meaning}
-use Rattle.cjc_card_semantics.specs.Machine.ByToken.{by_token}
+use Rattle.cjc_components.specs.LowerCardSemantics.Bytecode.Meanings.{meaning}
+use Rattle.cjc_components.specs.LowerCardSemantics.Machine.ByToken.{by_token}
 use Rattle.cjc_examples.proofs.components.broken_components_are_stuck.Goals as goal
 
 pub returns : goal.returns

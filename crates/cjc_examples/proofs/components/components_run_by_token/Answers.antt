@@ -27,7 +27,7 @@ use Rattle.cjc_world.specs.Exported.{is_exported}
 use Rattle.cjc_world.specs.Subtype.{is_subclass, is_subtype}
 use Rattle.cjc_tokens.specs.Fields.{instance_token, field_token, field_tokens, instance_tokens}
 use Rattle.cjc_tokens.specs.Tokens.{classes_from as token_classes_from, assigned}
-use Rattle.cjc_card_semantics.specs.Bytecode.Meanings.{meaning}
+use Rattle.cjc_components.specs.LowerCardSemantics.Bytecode.Meanings.{meaning}
 use Rattle.cjc_capwrite.specs.Package.{header_bytes, import_bytes, imported_package_bytes, applet_bytes}
 use Rattle.cjc_capwrite.specs.Package.{applet_entry_bytes, directory_bytes}
 use Rattle.cjc_components.specs.LowerSubset.Types.{is_int_desc, is_int_element}
@@ -41,7 +41,7 @@ use Rattle.cjc_capwrite.specs.Descriptor.{type_bytes, types_bytes, descriptor_by
 use Rattle.cjc_capwrite.specs.Pool.{entry_bytes, pool_bytes}
 use Rattle.cjc_world.specs.ExportFile.Written.{value_name, class_tree_needs, needs}
 use Rattle.cjc_world.specs.ExportFile.Supers.{upwards_from}
-use Rattle.cjc_card_semantics.specs.Machine.ByToken.{by_token}
+use Rattle.cjc_components.specs.LowerCardSemantics.Machine.ByToken.{by_token}
 use Rattle.cjc_examples.proofs.components.components_run_by_token.Goals as goal
 
 pub returns-clause-sum : goal.returns-clause-sum

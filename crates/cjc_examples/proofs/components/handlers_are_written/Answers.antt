@@ -23,7 +23,7 @@ use Rattle.cjc_tokens.specs.Slots.{token, own, got, first_answer, taken_slots, t
 use Rattle.cjc_tokens.specs.Methods.{interfaces_at, interface_methods}
 use Rattle.cjc_components.specs.LowerCheckRules.Spots.{placed}
 use Rattle.cjc_capwrite.specs.CapRead.Opcodes.{forms, form, op_info}
-use Rattle.cjc_card_semantics.specs.Bytecode.Meanings.{meaning}
+use Rattle.cjc_components.specs.LowerCardSemantics.Bytecode.Meanings.{meaning}
 use Rattle.cjc_capwrite.specs.Method.{handler_bytes, method_bytes}
 use Rattle.cjc_capwrite.specs.Pool.{entry_bytes, pool_bytes}
 use Rattle.cjc_capwrite.specs.Statics.{reference_location_bytes}

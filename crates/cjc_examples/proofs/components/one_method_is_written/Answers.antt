@@ -31,7 +31,7 @@ use Rattle.cjc_capwrite.specs.Package.{header_bytes, import_bytes, imported_pack
 use Rattle.cjc_capwrite.specs.Package.{applet_entry_bytes, directory_bytes}
 use Rattle.cjc_components.specs.LowerSubset.Types.{is_int_desc, is_int_element}
 use Rattle.cjc_capwrite.specs.Class.{interface_bytes, implemented_bytes, class_entry_bytes, class_info_bytes}
-use Rattle.cjc_card_semantics.specs.Bytecode.Meanings.{meaning}
+use Rattle.cjc_components.specs.LowerCardSemantics.Bytecode.Meanings.{meaning}
 use Rattle.cjc_capwrite.specs.Method.{handler_bytes, method_bytes}
 use Rattle.cjc_capwrite.specs.Statics.{reference_location_bytes, array_init_bytes, static_field_bytes}
 use Rattle.cjc_components.specs.LowerCheckRules.Locations.{catch_places, distances}

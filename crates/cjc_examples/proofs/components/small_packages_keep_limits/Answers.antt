@@ -27,7 +27,7 @@ use Rattle.cjc_world.specs.Exported.{is_exported}
 use Rattle.cjc_world.specs.Subtype.{is_subclass, is_subtype}
 use Rattle.cjc_tokens.specs.Fields.{instance_token, field_token, field_tokens, instance_tokens}
 use Rattle.cjc_tokens.specs.Tokens.{classes_from as token_classes_from, assigned}
-use Rattle.cjc_card_semantics.specs.Bytecode.Meanings.{meaning}
+use Rattle.cjc_components.specs.LowerCardSemantics.Bytecode.Meanings.{meaning}
 use Rattle.cjc_capwrite.specs.Package.{header_bytes, import_bytes, imported_package_bytes, applet_bytes}
 use Rattle.cjc_capwrite.specs.Package.{applet_entry_bytes, directory_bytes}
 use Rattle.cjc_components.specs.LowerSubset.Types.{is_int_desc, is_int_element}

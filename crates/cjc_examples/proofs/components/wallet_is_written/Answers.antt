@@ -29,7 +29,7 @@ use Rattle.cjc_world.specs.Subtype.{is_subclass, is_subtype}
 use Rattle.cjc_tokens.specs.Fields.{instance_token, field_token, field_tokens, instance_tokens}
 use Rattle.cjc_tokens.specs.Tokens.{classes_from as token_classes_from, assigned}
 use Rattle.cjc_capwrite.specs.Pool.{entry_bytes, pool_bytes}
-use Rattle.cjc_card_semantics.specs.Bytecode.Meanings.{meaning}
+use Rattle.cjc_components.specs.LowerCardSemantics.Bytecode.Meanings.{meaning}
 use Rattle.cjc_capwrite.specs.Method.{handler_bytes, method_bytes}
 use Rattle.cjc_capwrite.specs.Statics.{reference_location_bytes}
 use Rattle.cjc_components.specs.LowerCheckRules.Locations.{catch_places, distances}

@@ -20,8 +20,8 @@ use Rattle.cjc_capwrite.specs.CapRead.Opcodes.{forms, form}
 use Rattle.cjc_world.specs.ExportFile.Supers.{upwards_from}
 use Rattle.cjc_components.specs.LowerJvmSemantics.Effects.{effect}
 use Rattle.cjc_components.specs.LowerJvmSemantics.ByName.{linked}
-use Rattle.cjc_card_semantics.specs.Bytecode.Meanings.{meaning}
-use Rattle.cjc_card_semantics.specs.Machine.ByToken.{by_token}
+use Rattle.cjc_components.specs.LowerCardSemantics.Bytecode.Meanings.{meaning}
+use Rattle.cjc_components.specs.LowerCardSemantics.Machine.ByToken.{by_token}
 use Rattle.cjc_components.specs.LowerNCode.ByLabel.{by_label}
 use Rattle.cjc_components.specs.LowerNarrow.Pairs.Roles.{with_pairs}
 use Rattle.cjc_components.specs.LowerNarrow.Rows.Resolved.{resolution}

@@ -1,6 +1,5 @@
-use Rattle.std.proofs.Common.{ap, ◌∙◌}
+use Rattle.std.proofs.Common.{refl, ap, ◌∙◌}
 use Rattle.std.specs.Prelude.{map}
-use Rattle.cjc_pool.specs.NCode.PoolOrder.{pool_order}
 use Rattle.cjc_narrow.specs.Rows.Selected.{near_fields}
 use Rattle.cjc_components.specs.Written.{code_at}
 use Rattle.cjc_methods.proofs.Again.{by_own_pool}
@@ -11,7 +10,6 @@ pub returns : goal.returns
 returns c = λ rows are.
     let files = c.args.world.now in
     let members = c.args.members.now in
-    let pool = c.in_ok-pool.ensures ∙ ap pool_order c.items-3.ensures in
-    if_more (λ ns e. by_own_pool files rows members _ c.in_ok-first.first ns (c.in_ok-first.ensures rows are) (e
-    ∙ ap (λ keys. map (code_at files (near_fields keys) rows) members) pool))
-    c.codes_at-3.result (c.codes_at-3.ensures rows are)
+    if_more (λ ns e. by_own_pool files rows members _ _ ns refl (e
+    ∙ ap (λ keys. map (code_at files (near_fields keys) rows) members) (c.in_ok-pool.ensures rows are)))
+    c.codes_at.result (c.codes_at.ensures rows are)

@@ -1,5 +1,5 @@
-use Rattle.std.proofs.Common.{◌≡◌, ◌∙◌, refl, ap, sym, subst, length, List}
-use Rattle.std.specs.Prelude.{Some, slice_get, option_map}
+use Rattle.std.proofs.Common.{◌≡◌, ◌∙◌, refl, ap, sym, subst, length, List, []}
+use Rattle.std.specs.Prelude.{None, Some, slice_get, option_map}
 use Rattle.std.proofs.lemmas.Option.{slice_get_read}
 use Rattle.cjc_bytes.specs.declared.settings.FileLine.{FileLine}
 use Rattle.cjc_code.specs.declared.insn.JInsn.{JInsn}
@@ -20,7 +20,7 @@ returns c =
     let a = c.in_ok-class.ensures.lookup in
     let d = c.in_ok-method.ensures.lookup in
     let f : FilePlace = file_place_of c.file_of-file.result in
-    let lines = c.items-3.ensures ∙ c.lines.ensures in
+    let lines = c.items-4.ensures ∙ c.lines.ensures in
     let in_classes : slice_get files.classes code.class ≡ Some class = ap (λ xs. slice_get xs code.class)
     (sym (c.items.ensures ∙ c.classes.ensures)) ∙ slice_get_read c.items.result.now (length c.items.result.now)
     code.class class refl a.3.0 a.1 in
@@ -32,5 +32,25 @@ returns c =
     code_there files code.class code.method (λ f c m. method_breaks files f c code.method m code.insns) class method f
     (option_map break_of c.method_break.result) in_classes in_methods file
     (subst (λ (is : List JInsn). IsFirstOf (method_breaks files f class code.method method is)
-    (option_map break_of c.method_break.result)) c.items-4.ensures (c.method_break.ensures f
+    (option_map break_of c.method_break.result)) c.items-5.ensures (c.method_break.ensures f
     c.class_spot-spot.ensures))
+
+pub returns-then-is_clean : goal.returns-then-is_clean
+unfolding code_breaks
+returns-then-is_clean c =
+    let files = c.args.world.now in
+    let code = c.args.code.now in
+    let class = c.in_ok-class.class.now in
+    let method = c.in_ok-method.method.now in
+    let a = c.in_ok-class.ensures.lookup in
+    let d = c.in_ok-method.ensures.lookup in
+    let in_classes : slice_get files.classes code.class ≡ Some class = ap (λ xs. slice_get xs code.class)
+    (sym (c.items.ensures ∙ c.classes.ensures)) ∙ slice_get_read c.items.result.now (length c.items.result.now)
+    code.class class refl a.3.0 a.1 in
+    let in_methods : slice_get class.methods code.method ≡ Some method = ap (λ xs. slice_get xs code.method)
+    (sym c.items-2.ensures) ∙ slice_get_read c.items-2.result.now (length c.items-2.result.now) code.method method
+    refl d.3.0 d.1 in
+    code_there files code.class code.method (λ f c m. method_breaks files f c code.method m code.insns) class method
+    (file_of files.lines code.class) None in_classes in_methods refl
+    (subst (λ (is : List JInsn). method_breaks files (file_of files.lines code.class) class code.method method is ≡ [])
+    c.items-3.ensures (c.is_clean.ensures c.if-is_clean.true (file_of files.lines code.class) code.method))

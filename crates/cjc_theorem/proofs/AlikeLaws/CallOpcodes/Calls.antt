@@ -3,16 +3,16 @@ use Rattle.std.proofs.Common.{◌≡◌, ℕ, ap, ◌∙◌, sym, refl, true, fa
 use Rattle.std.specs.Prelude.{Some, slice_get, ◌==◌}
 use Rattle.std.proofs.lemmas.List.Elements.{All-contains}
 use Rattle.cjc_bytes.specs.declared.fault.MemberId.{MemberId}
-use Rattle.cjc_code.specs.declared.insn.JInsn.{JInsn}
-use Rattle.cjc_code.specs.declared.insn.JOp.TheVariants as jop
-use Rattle.cjc_code.specs.declared.method_code.MethodCode.{MethodCode}
+use Rattle.cjc_components.specs.Bytecode.declared.insn.JInsn.{JInsn}
+use Rattle.cjc_components.specs.Bytecode.declared.insn.JOp.TheVariants as jop
+use Rattle.cjc_components.specs.Bytecode.declared.method_code.MethodCode.{MethodCode}
 use Rattle.cjc_shape_proof.specs.LowerJudge.declared.judged.Judged.{Judged}
 use Rattle.cjc_token_proof.specs.List.Listed.{ListTree}
 use Rattle.cjc_theorem.specs.Alike.Opcodes.{CallsHaveOpcodes}
 use Rattle.cjc_shape_proof.specs.LowerShape.Prepared.{IsSound}
-use Rattle.cjc_code.specs.ReadLaws.Instructions.{IsInstruction, has_opcode}
-use Rattle.cjc_code.proofs.ReadLaws.Decoded.{decoded_instruction}
-use Rattle.cjc_code.proofs.ReadLaws.Members.{read_class}
+use Rattle.cjc_components.specs.Bytecode.ReadLaws.Instructions.{IsInstruction, has_opcode}
+use Rattle.cjc_ncode.proofs.BytecodeDecoded.{decoded_instruction}
+use Rattle.cjc_ncode.proofs.BytecodeMembers.{read_class}
 use Rattle.cjc_narrow_proof.proofs.SelectedLaws.Cuts.{decoded}
 use Rattle.cjc_theorem.proofs.SoundRuns.Read.{read_files}
 use Rattle.cjc_token_proof.specs.Types.Tables.{IsOfPackage}

@@ -17,8 +17,8 @@ use Rattle.cjc_jvm_semantics.specs.OnePackage.{array_place, cell_of, cells, cell
 use Rattle.cjc_token_proof.proofs.ByToken.Members.{member_same}
 use Rattle.cjc_token_proof.specs.ByToken.Cells.{HasCells, are_cells, fits, is_number, is_one_of, letter, letter_by}
 use Rattle.cjc_token_proof.specs.ByToken.Cells.{lies_in}
-use Rattle.cjc_code.specs.ClassFile.declared.tree.ClassTree.{ClassTree}
-use Rattle.cjc_code.specs.ClassFile.declared.tree.FieldTree.{FieldTree}
+use Rattle.cjc_world.specs.ClassFile.declared.tree.ClassTree.{ClassTree}
+use Rattle.cjc_world.specs.ClassFile.declared.tree.FieldTree.{FieldTree}
 use Rattle.cjc_token_proof.specs.Clinit.Fields.{is_cell}
 use Rattle.cjc_token_proof.specs.Clinit.Image.{field_id}
 use Rattle.cjc_token_proof.proofs.WorldProofInitialisers.{same-field}

@@ -2,7 +2,7 @@
 use Rattle.std.proofs.Common.{List, ℕ, sym, subst}
 use Rattle.cjc_bytes.specs.Breaks.{Break}
 use Rattle.cjc_token_proof.specs.Clinit.Rules.{BreaksImage}
-use Rattle.cjc_code.specs.PackageCodes.{all_codes}
+use Rattle.cjc_components.specs.Bytecode.PackageCodes.{all_codes}
 use Rattle.cjc_components.specs.Package.{Package}
 use Rattle.cjc_shape_proof.specs.LowerClasses.Descriptor.Fits.{AreFit}
 use Rattle.cjc_shape_proof.proofs.WrittenLaws.FittingLaws.Arrays.{arrays_fit}

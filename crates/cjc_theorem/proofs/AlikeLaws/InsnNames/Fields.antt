@@ -9,8 +9,8 @@ use Rattle.cjc_jvm_semantics.specs.OnePackage.{constant_at, instance_fields, mem
 use Rattle.cjc_token_proof.proofs.ByToken.Members.{member_same}
 use Rattle.cjc_token_proof.specs.ByToken.Cells.{is_one_of}
 use Rattle.cjc_token_proof.proofs.WorldProofOwn.{IsFieldAt, mapped_at}
-use Rattle.cjc_code.specs.ClassFile.declared.tree.ClassTree.{ClassTree}
-use Rattle.cjc_code.specs.ClassFile.declared.tree.FieldTree.{FieldTree}
+use Rattle.cjc_world.specs.ClassFile.declared.tree.ClassTree.{ClassTree}
+use Rattle.cjc_world.specs.ClassFile.declared.tree.FieldTree.{FieldTree}
 use Rattle.cjc_token_proof.specs.Clinit.Fields.{is_cell}
 use Rattle.cjc_token_proof.specs.Clinit.Image.{field_id}
 use Rattle.cjc_world.specs.ExportFile.Members.{may_be_constant}

@@ -6,10 +6,10 @@ use Rattle.cjc_jvm_semantics.specs.OnePackage.{constant_at, of_class}
 use Rattle.cjc_token_proof.specs.ByToken.Cells.{HasCells, fields, is_one_of, letter}
 use Rattle.cjc_shape_proof.specs.WorldProof.Calls.Solid.{IsSolid}
 use Rattle.cjc_token_proof.specs.CardSemantics.Machine.ByToken.{letter_of}
-use Rattle.cjc_code.specs.ClassFile.declared.tree.ClassTree.{ClassTree}
-use Rattle.cjc_code.specs.declared.insn.JOp.{JOp}
-use Rattle.cjc_code.specs.declared.insn.JOp.TheVariants as jop
-use Rattle.cjc_code.specs.declared.method_code.MethodCode.{MethodCode}
+use Rattle.cjc_world.specs.ClassFile.declared.tree.ClassTree.{ClassTree}
+use Rattle.cjc_components.specs.Bytecode.declared.insn.JOp.{JOp}
+use Rattle.cjc_components.specs.Bytecode.declared.insn.JOp.TheVariants as jop
+use Rattle.cjc_components.specs.Bytecode.declared.method_code.MethodCode.{MethodCode}
 use Rattle.cjc_components.specs.Package.{Package, world}
 use Rattle.cjc_theorem.proofs.AlikeLaws.InsnNames.Fields.{object_field, static_field}
 use Rattle.cjc_theorem.proofs.AlikeLaws.InsnNames.Types.{class_is_there, made_is_there, type_is_there}

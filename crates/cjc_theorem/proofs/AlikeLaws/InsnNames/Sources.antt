@@ -5,13 +5,13 @@ use Rattle.std.specs.List.{Contains}
 use Rattle.std.proofs.lemmas.Option.{get_or_from_slice_get, slice_get_within}
 use Rattle.cjc_jvm_semantics.specs.Linked.{Method}
 use Rattle.cjc_jvm_semantics.specs.OnePackage.{method_at, method_by, method_in}
-use Rattle.cjc_code.specs.ClassFile.Code.{CodeTree}
-use Rattle.cjc_code.specs.ClassFile.declared.tree.ClassTree.{ClassTree}
-use Rattle.cjc_code.specs.ClassFile.declared.tree.MethodTree.{MethodTree}
-use Rattle.cjc_code.specs.Decoded.{decoded, insns_of, of_code, of_method}
-use Rattle.cjc_code.specs.PackageCodes.{all_codes}
-use Rattle.cjc_code.specs.declared.insn.JInsn.{JInsn}
-use Rattle.cjc_code.specs.declared.method_code.MethodCode.{MethodCode}
+use Rattle.cjc_world.specs.ClassFile.Code.{CodeTree}
+use Rattle.cjc_world.specs.ClassFile.declared.tree.ClassTree.{ClassTree}
+use Rattle.cjc_world.specs.ClassFile.declared.tree.MethodTree.{MethodTree}
+use Rattle.cjc_components.specs.Bytecode.Decoded.{decoded, insns_of, of_code, of_method}
+use Rattle.cjc_components.specs.Bytecode.PackageCodes.{all_codes}
+use Rattle.cjc_components.specs.Bytecode.declared.insn.JInsn.{JInsn}
+use Rattle.cjc_components.specs.Bytecode.declared.method_code.MethodCode.{MethodCode}
 use Rattle.cjc_components.specs.Package.{LaidMethod, Package}
 use Rattle.cjc_shape_proof.specs.LowerJudge.declared.judged.Judged.{Judged}
 use Rattle.cjc_token_proof.specs.List.Listed.{ListTree}

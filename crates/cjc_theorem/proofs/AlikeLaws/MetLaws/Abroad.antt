@@ -9,7 +9,7 @@ use Rattle.cjc_bytes.proofs.Gets.{in_front, get_behind}
 use Rattle.cjc_jvm_semantics.specs.OnePackage.{is_initialiser, of_class}
 use Rattle.cjc_token_proof.proofs.WorldProofOwn.{mapped_at}
 use Rattle.cjc_token_proof.specs.CardSemantics.Machine.Classes.{with_token}
-use Rattle.cjc_code.specs.ClassFile.declared.tree.ClassTree.{ClassTree}
+use Rattle.cjc_world.specs.ClassFile.declared.tree.ClassTree.{ClassTree}
 use Rattle.cjc_shape_proof.specs.LowerCheckProof.Code.Members.{IsImportedClass, IsImportedMethod, classes_before}
 use Rattle.cjc_token_proof.specs.Components.Whole.{exports_of}
 use Rattle.cjc_components.specs.Package.{Package, world}
@@ -18,7 +18,7 @@ use Rattle.cjc_world.specs.ExportFile.declared.tree.ExportClass.{ExportClass}
 use Rattle.cjc_world.specs.ExportFile.declared.tree.ExportTree.{ExportTree}
 use Rattle.cjc_shape_proof.specs.LowerJudge.declared.judged.Judged.{Judged}
 use Rattle.cjc_token_proof.specs.List.Listed.{ListTree}
-use Rattle.cjc_subset.specs.Members.{imports}
+use Rattle.cjc_token_proof.specs.Subset.Members.{imports}
 use Rattle.cjc_token_proof.proofs.TablesLaws.Above.{entry_of_name}
 use Rattle.cjc_token_proof.proofs.TablesLaws.Clean.{own_name}
 use Rattle.cjc_token_proof.proofs.TablesLaws.Filed.{import_in}

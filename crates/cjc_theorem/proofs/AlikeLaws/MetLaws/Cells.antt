@@ -10,8 +10,8 @@ use Rattle.cjc_token_proof.proofs.ByToken.Members.{behind_all, front_all, member
 use Rattle.cjc_token_proof.specs.ByToken.Cells.{HasCells, fields, is_number, is_one_of, letter, letter_by}
 use Rattle.cjc_token_proof.specs.CardSemantics.Machine.ByToken.{letter_of}
 use Rattle.cjc_shape_proof.proofs.CheckProofLists.{has-flat, has-map}
-use Rattle.cjc_code.specs.ClassFile.declared.tree.ClassTree.{ClassTree}
-use Rattle.cjc_code.specs.ClassFile.declared.tree.FieldTree.{FieldTree}
+use Rattle.cjc_world.specs.ClassFile.declared.tree.ClassTree.{ClassTree}
+use Rattle.cjc_world.specs.ClassFile.declared.tree.FieldTree.{FieldTree}
 use Rattle.cjc_token_proof.specs.Clinit.Fields.{is_cell}
 use Rattle.cjc_token_proof.specs.Clinit.Image.{field_id}
 use Rattle.cjc_shape_proof.specs.LowerCheckProof.Code.Members.{CellsFit}

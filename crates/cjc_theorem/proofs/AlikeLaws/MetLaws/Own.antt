@@ -16,8 +16,8 @@ use Rattle.cjc_token_proof.specs.ByToken.Cells.{HasCells, is_one_of}
 use Rattle.cjc_token_proof.proofs.WorldProofOwn.{IsFieldAt, mapped_at}
 use Rattle.cjc_shape_proof.specs.WorldProof.Calls.Solid.{IsSolid}
 use Rattle.cjc_token_proof.specs.Calls.Reaching.{is_same}
-use Rattle.cjc_code.specs.ClassFile.declared.tree.ClassTree.{ClassTree}
-use Rattle.cjc_code.specs.ClassFile.declared.tree.FieldTree.{FieldTree}
+use Rattle.cjc_world.specs.ClassFile.declared.tree.ClassTree.{ClassTree}
+use Rattle.cjc_world.specs.ClassFile.declared.tree.FieldTree.{FieldTree}
 use Rattle.cjc_token_proof.specs.Clinit.Image.{field_id}
 use Rattle.cjc_shape_proof.specs.LowerCheckProof.Code.Members.{CellsFit, IsOwnCell, IsOwnClass, IsOwnField, IsOwnMethod}
 use Rattle.cjc_token_proof.proofs.ComponentsLaws.Apart.{IsOwn, order_own}
@@ -31,9 +31,9 @@ use Rattle.cjc_theorem.proofs.AlikeLaws.NamedLaws.Members.{NamesField, NamesMeth
 use Rattle.cjc_token_proof.specs.Narrow.Rows.Resolved.{constant_named}
 use Rattle.cjc_narrow_proof.proofs.LawsLaws.Own.{first_here}
 use Rattle.cjc_narrow_proof.specs.Laws.Unbroken.{IsUnbroken}
-use Rattle.cjc_subset.specs.Checks.{is_imported_variable}
-use Rattle.cjc_subset.specs.Members.{imported_field, is_imported_constant}
-use Rattle.cjc_subset.specs.Members as subset
+use Rattle.cjc_token_proof.specs.Subset.Checks.{is_imported_variable}
+use Rattle.cjc_token_proof.specs.Subset.Members.{imported_field, is_imported_constant}
+use Rattle.cjc_token_proof.specs.Subset.Members as subset
 use Rattle.cjc_token_proof.proofs.TablesLaws.Above.{info_of_name, rules_of}
 use Rattle.cjc_token_proof.specs.Tables.Known.{order_of, statics_of}
 use Rattle.cjc_tokens.specs.Fields.{is_constant}

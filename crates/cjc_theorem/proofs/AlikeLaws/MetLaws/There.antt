@@ -9,9 +9,9 @@ use Rattle.cjc_bytes.proofs.Bools.{or_right, clash}
 use Rattle.cjc_jvm_semantics.specs.OnePackage.{ResolvedMember, is_constructor, method_hit, of_class}
 use Rattle.cjc_token_proof.specs.ByToken.Cells.{HasCells}
 use Rattle.cjc_shape_proof.specs.LowerCheckProof.Classes.Premises.{names_known}
-use Rattle.cjc_code.specs.ClassFile.declared.tree.ClassTree.{ClassTree}
-use Rattle.cjc_code.specs.declared.insn.JOp.TheVariants as jop
-use Rattle.cjc_code.specs.declared.method_code.MethodCode.{MethodCode}
+use Rattle.cjc_world.specs.ClassFile.declared.tree.ClassTree.{ClassTree}
+use Rattle.cjc_components.specs.Bytecode.declared.insn.JOp.TheVariants as jop
+use Rattle.cjc_components.specs.Bytecode.declared.method_code.MethodCode.{MethodCode}
 use Rattle.cjc_shape_proof.specs.LowerCheckProof.Code.Members as members
 use Rattle.cjc_shape_proof.specs.LowerCheckProof.Code.Members.{CellsFit}
 use Rattle.cjc_components.specs.Package.{Package, world}
@@ -26,7 +26,7 @@ use Rattle.cjc_theorem.proofs.AlikeLaws.NamedLaws.Names.{called, fixed_in_class,
 use Rattle.cjc_shape_proof.proofs.FindsLaws.Descs.{member_desc}
 use Rattle.cjc_narrow_proof.proofs.LawsLaws.Instructions.{op_there}
 use Rattle.cjc_narrow_proof.specs.Laws.Unbroken.{IsInsnOf}
-use Rattle.cjc_subset.specs.Names.{is_name_missing, names_missing}
+use Rattle.cjc_token_proof.specs.Subset.Names.{is_name_missing, names_missing}
 use Rattle.cjc_token_proof.specs.Narrow.Rows.Resolved.{method_found, resolved_method, special_by, virtual_by}
 use Rattle.cjc_ncode.specs.ByLabel.{OnObject, OnSuper}
 use Rattle.cjc_ncode.specs.declared.narrow.PoolKey.{PoolKey}

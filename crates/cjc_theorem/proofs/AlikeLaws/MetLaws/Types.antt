@@ -8,8 +8,8 @@ use Rattle.cjc_bytes.specs.declared.fault.MemberId.{MemberId}
 use Rattle.cjc_bytes.proofs.Gets.{mapped_at}
 use Rattle.cjc_shape_proof.proofs.CheckProofLists.{has-mapped}
 use Rattle.cjc_shape_proof.specs.LowerCheckProof.Classes.Premises.{is_known, types_known}
-use Rattle.cjc_code.specs.ClassFile.declared.tree.ClassTree.{ClassTree}
-use Rattle.cjc_code.specs.ClassFile.declared.tree.FieldTree.{FieldTree}
+use Rattle.cjc_world.specs.ClassFile.declared.tree.ClassTree.{ClassTree}
+use Rattle.cjc_world.specs.ClassFile.declared.tree.FieldTree.{FieldTree}
 use Rattle.cjc_components.specs.Class.{fields_in, fields_of}
 use Rattle.cjc_components.specs.Package.{Package, pool, world}
 use Rattle.cjc_components.specs.Types.{all_descs, desc_of_field, desc_of_key, descs_of_class}

@@ -6,9 +6,9 @@ use Rattle.cjc_token_proof.specs.CardSemantics.Bytecode.Meanings.{meaning}
 use Rattle.cjc_bytes.specs.AccessFlags.{is_interface, is_private}
 use Rattle.cjc_bytes.specs.declared.fault.MemberId.{MemberId}
 use Rattle.cjc_jvm_semantics.specs.OnePackage.{ResolvedMember, is_constructor, method_hit, of_class}
-use Rattle.cjc_code.specs.ClassFile.declared.tree.ClassTree.{ClassTree}
-use Rattle.cjc_code.specs.declared.insn.JOp.{JOp}
-use Rattle.cjc_code.specs.declared.insn.JOp.TheVariants as jop
+use Rattle.cjc_world.specs.ClassFile.declared.tree.ClassTree.{ClassTree}
+use Rattle.cjc_components.specs.Bytecode.declared.insn.JOp.{JOp}
+use Rattle.cjc_components.specs.Bytecode.declared.insn.JOp.TheVariants as jop
 use Rattle.cjc_narrow_proof.specs.Sources as sources
 use Rattle.cjc_narrow_proof.specs.Sources.{IsWrittenFor}
 use Rattle.cjc_components.specs.Package.{LaidMethod, Package, pool, world}
@@ -28,7 +28,8 @@ use Rattle.cjc_world.specs.Classes.{Class, class_named}
 use Rattle.cjc_token_proof.specs.WrittenCalls.Calls.{IsNamed, TakesWords}
 use Rattle.cjc_shape_proof.specs.Written.Converted.{IsConverted}
 use Rattle.cjc_token_proof.specs.WrittenSends.Named.{CallsAreNamed, callee_in, calls_in}
-use Rattle.cjc_theorem.proofs.AlikeLaws.NamedCalls.Operations.{flat_from, is_that_call, no_call, no_class, no_field}
+use Rattle.cjc_theorem.proofs.AlikeLaws.NamedCalls.Operations.{is_that_call, no_call, no_class, no_field}
+use Rattle.cjc_token_proof.proofs.WrittenSends.Operations.{flat_from}
 use Rattle.cjc_theorem.proofs.AlikeLaws.NamedCalls.Operations.{no_static, no_test}
 
 -- What is promised of the calls of a package by their opcodes, as laws on each kind say it.

@@ -1,6 +1,6 @@
 -- Which instructions of narrow code make calls.
-use Rattle.std.proofs.Common.{◌≡◌, ℕ, zero, suc, refl, ap, true, List, [], ◌∷◌, ◌++◌, ⊎_elim, inl, inr}
-use Rattle.std.specs.Prelude.{◌⊎◌, Option, Some, None, flat_map, slice_get, ℤ}
+use Rattle.std.proofs.Common.{◌≡◌, ℕ, zero, suc, refl, ap, true, List, [], ◌∷◌}
+use Rattle.std.specs.Prelude.{Option, Some, None, slice_get, ℤ}
 use Rattle.cjc_token_proof.specs.CardSemantics.Bytecode.Effects.{Call}
 use Rattle.cjc_token_proof.specs.CardSemantics.Bytecode.Meanings.{Asks, Branches, Calls, Casts, Meaning, Paired, Plain}
 use Rattle.cjc_token_proof.specs.CardSemantics.Bytecode.Meanings.{Ranged}
@@ -15,23 +15,6 @@ use Rattle.cjc_ncode.specs.declared.narrow.NInsn.TheVariants as insns
 use Rattle.cjc_ncode.specs.declared.narrow.PoolKey.TheVariants as keys
 use Rattle.cjc_token_proof.specs.Script.Sorts.{Element, Shape}
 use Rattle.cjc_token_proof.specs.WrittenSends.Named.{callee_in}
-
--- ---- lists
-
-either_at : {A : Type 0} (xs ys : List A) (k : ℕ) (x : A) → slice_get (xs ++ ys) k ≡ Some x
-    → ((j : ℕ) × (slice_get xs j ≡ Some x)) ⊎ ((j : ℕ) × (slice_get ys j ≡ Some x))
-either_at [] ys k x e = inr (k, e)
-either_at (y ∷ xs) ys zero x e = inl (0, e)
-either_at (y ∷ xs) ys (suc k) x e = ⊎_elim (λ h. inl (suc h.0, h.1)) (λ h. inr h) (either_at xs ys k x e)
-
--- what stands in lists that are joined stands in one of them
-pub flat_from : {A B : Type 0} (f : A → List B) (xs : List A) (k : ℕ) (y : B) → slice_get (flat_map f xs) k ≡ Some y
-    → (i : ℕ) × (x : A) × (slice_get xs i ≡ Some x) × ((j : ℕ) × (slice_get (f x) j ≡ Some y))
-flat_from f [] k y e = absurd cc
-flat_from f (x ∷ xs) k y e = ⊎_elim
-    (λ h. (0, x, refl, h))
-    (λ h. let r = flat_from f xs h.0 y h.1 in (suc r.0, r.1, r.2, r.3))
-    (either_at (f x) (flat_map f xs) k y e)
 
 -- ---- operations
 

@@ -24,7 +24,7 @@ use Rattle.cjc_world.specs.ExportFile.declared.tree.ExportClass.{ExportClass}
 use Rattle.cjc_world.specs.ExportFile.declared.tree.ExportMethod.{ExportMethod}
 use Rattle.cjc_ncode.specs.Lowering.Naming.{IsFixed}
 use Rattle.cjc_components.specs.Paired.Naming.{files_from}
-use Rattle.cjc_subset.specs.Members.{imports}
+use Rattle.cjc_token_proof.specs.Subset.Members.{imports}
 use Rattle.cjc_token_proof.specs.Tables.Loading.{loaded, naming}
 use Rattle.cjc_token_proof.specs.Tables.Sound.{IsSound}
 use Rattle.cjc_token_proof.proofs.TablesLaws.Above.{entry_of_name}

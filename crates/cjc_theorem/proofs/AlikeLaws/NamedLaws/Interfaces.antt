@@ -10,16 +10,16 @@ use Rattle.cjc_bytes.proofs.Bools.{last_of}
 use Rattle.cjc_jvm_semantics.specs.OnePackage.{is_constructor, is_initialiser}
 use Rattle.cjc_token_proof.proofs.WorldProofOwn.{mapped_at}
 use Rattle.cjc_shape_proof.specs.WorldProof.Calls.Solid.{IsOwn, IsSolid}
-use Rattle.cjc_code.specs.ClassFile.declared.tree.ClassTree.{ClassTree}
-use Rattle.cjc_code.specs.ClassFile.declared.tree.MethodTree.{MethodTree}
-use Rattle.cjc_code.specs.declared.method_code.MethodCode.{MethodCode}
+use Rattle.cjc_world.specs.ClassFile.declared.tree.ClassTree.{ClassTree}
+use Rattle.cjc_world.specs.ClassFile.declared.tree.MethodTree.{MethodTree}
+use Rattle.cjc_components.specs.Bytecode.declared.method_code.MethodCode.{MethodCode}
 use Rattle.cjc_world.specs.ExportFile.Members.{not_special}
 use Rattle.cjc_world.specs.ExportFile.Writable.{ClassFits, IsWritable, MethodStands}
 use Rattle.cjc_world.specs.ExportFile.declared.tree.ExportTree.{ExportTree}
 use Rattle.cjc_token_proof.proofs.WorldProofRules.{method_kept}
-use Rattle.cjc_subset.specs.Checks.{check_breaks}
-use Rattle.cjc_subset.specs.Flags.{is_unfit_method, is_unfit_method_kind}
-use Rattle.cjc_subset.specs.Members.{imports}
+use Rattle.cjc_token_proof.specs.Subset.Checks.{check_breaks}
+use Rattle.cjc_token_proof.specs.Subset.Flags.{is_unfit_method, is_unfit_method_kind}
+use Rattle.cjc_token_proof.specs.Subset.Members.{imports}
 use Rattle.cjc_vtable.proofs.Filed.{IsFiled, filed, get-has, has-get, in_class_file, in_export_file, of-imports}
 use Rattle.cjc_vtable.proofs.Read.{each-after}
 use Rattle.cjc_world.specs.Classes.{Class, Member, all_classes, class_named, method_of_class, method_of_export}

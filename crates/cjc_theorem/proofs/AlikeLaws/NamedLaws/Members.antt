@@ -11,9 +11,9 @@ use Rattle.cjc_jvm_semantics.specs.OnePackage.{ResolvedMember, constant_at, expo
 use Rattle.cjc_jvm_semantics.specs.OnePackage.{of_class}
 use Rattle.cjc_shape_proof.specs.WorldProof.Calls.Solid.{IsSolid}
 use Rattle.cjc_token_proof.proofs.WorldProofOwn.{IsAt, IsFieldAt, field_at, field_hit_is, hit_is, mapped_at, own_at}
-use Rattle.cjc_code.specs.ClassFile.declared.tree.ClassTree.{ClassTree}
-use Rattle.cjc_code.specs.declared.insn.JOp.TheVariants as jop
-use Rattle.cjc_code.specs.declared.method_code.MethodCode.{MethodCode}
+use Rattle.cjc_world.specs.ClassFile.declared.tree.ClassTree.{ClassTree}
+use Rattle.cjc_components.specs.Bytecode.declared.insn.JOp.TheVariants as jop
+use Rattle.cjc_components.specs.Bytecode.declared.method_code.MethodCode.{MethodCode}
 use Rattle.cjc_world.specs.ExportFile.Members.{may_be_constant}
 use Rattle.cjc_world.specs.ExportFile.declared.tree.ExportClass.{ExportClass}
 use Rattle.cjc_world.specs.ExportFile.declared.tree.ExportField.{ExportField}
@@ -24,12 +24,13 @@ use Rattle.cjc_narrow_proof.specs.Laws.Calls.{CallFits}
 use Rattle.cjc_narrow_proof.specs.Laws.Unbroken.{IsInsnOf, IsUnbroken}
 use Rattle.cjc_narrow_proof.proofs.LawsLaws.Calls.{called_fits}
 use Rattle.cjc_narrow_proof.proofs.LawsLaws.Instructions.{field_there, method_there, op_fit, op_there, static_there}
-use Rattle.cjc_subset.specs.Checks.{is_imported_variable, names_variable}
-use Rattle.cjc_subset.specs.Members.{imported_field, imports, is_imported_constant}
-use Rattle.cjc_subset.specs.Members as subset
-use Rattle.cjc_subset.proofs.Fits.{field_fits}
-use Rattle.cjc_subset.specs.Names.{is_constant_found, is_hidden, is_other_kind, is_unfit_call, is_unfit_class}
-use Rattle.cjc_subset.specs.Names.{is_unfit_field, is_unfit_method, names_unfit}
+use Rattle.cjc_token_proof.specs.Subset.Checks.{is_imported_variable, names_variable}
+use Rattle.cjc_token_proof.specs.Subset.Members.{imported_field, imports, is_imported_constant}
+use Rattle.cjc_token_proof.specs.Subset.Members as subset
+use Rattle.cjc_vtable.proofs.SubsetFits.{field_fits}
+use Rattle.cjc_token_proof.specs.Subset.Names.{is_constant_found, is_hidden, is_other_kind, is_unfit_call}
+use Rattle.cjc_token_proof.specs.Subset.Names.{is_unfit_class}
+use Rattle.cjc_token_proof.specs.Subset.Names.{is_unfit_field, is_unfit_method, names_unfit}
 use Rattle.cjc_world.specs.Upwards.{Below}
 use Rattle.cjc_world.proofs.UpwardLaws.Lines.{field_found_above, method_found_above, own_found}
 use Rattle.cjc_vtable.proofs.Filed.{IsFiled, filed, in_class_file, in_export_file}

@@ -10,10 +10,10 @@ use Rattle.cjc_jvm_semantics.specs.OnePackage.{of_class}
 use Rattle.cjc_token_proof.proofs.WorldProofOwn.{IsAt, mapped_at}
 use Rattle.cjc_shape_proof.specs.WorldProof.Calls.Solid.{IsSolid}
 use Rattle.cjc_token_proof.specs.CardSemantics.Machine.Operations.{static_cell}
-use Rattle.cjc_code.specs.ClassFile.declared.tree.ClassTree.{ClassTree}
-use Rattle.cjc_code.specs.declared.insn.JOp.{JOp}
-use Rattle.cjc_code.specs.declared.insn.JOp.TheVariants as jop
-use Rattle.cjc_code.specs.declared.method_code.MethodCode.{MethodCode}
+use Rattle.cjc_world.specs.ClassFile.declared.tree.ClassTree.{ClassTree}
+use Rattle.cjc_components.specs.Bytecode.declared.insn.JOp.{JOp}
+use Rattle.cjc_components.specs.Bytecode.declared.insn.JOp.TheVariants as jop
+use Rattle.cjc_components.specs.Bytecode.declared.method_code.MethodCode.{MethodCode}
 use Rattle.cjc_shape_proof.specs.LowerCheckProof.Code.Kinds.{HasKind, is_for}
 use Rattle.cjc_narrow_proof.specs.Sources as sources
 use Rattle.cjc_narrow_proof.specs.Sources.{IsWrittenFor, NamesClass, names_nothing}
@@ -40,8 +40,8 @@ use Rattle.cjc_ncode.specs.declared.narrow.PoolKey.{PoolKey}
 use Rattle.cjc_ncode.specs.declared.narrow.PoolKey.TheVariants as keys
 use Rattle.cjc_token_proof.specs.Script.Sorts.{OfClass, OfReferences, Shape, shape_named}
 use Rattle.cjc_narrow_proof.specs.Selected.Names.{NamesFit}
-use Rattle.cjc_subset.specs.Names.{is_unfit_virtual}
-use Rattle.cjc_subset.specs.Members as subset
+use Rattle.cjc_token_proof.specs.Subset.Names.{is_unfit_virtual}
+use Rattle.cjc_token_proof.specs.Subset.Members as subset
 use Rattle.cjc_token_proof.specs.Tables.Loading.{loaded, naming}
 use Rattle.cjc_token_proof.proofs.TablesLaws.Above.{info_of_name}
 use Rattle.cjc_vtable.proofs.Filed.{IsFiled, filed, in_class_file, in_export_file}

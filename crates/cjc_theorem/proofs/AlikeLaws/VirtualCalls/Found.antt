@@ -9,7 +9,7 @@ use Rattle.cjc_jvm_semantics.specs.OnePackage.{ResolvedMember, is_constructor, m
 use Rattle.cjc_token_proof.proofs.WorldProofOwn.{hit_is, own_at}
 use Rattle.cjc_shape_proof.specs.WorldProof.Calls.Solid.{IsSolid}
 use Rattle.cjc_token_proof.specs.Calls.Selecting.{signature}
-use Rattle.cjc_code.specs.ClassFile.declared.tree.ClassTree.{ClassTree}
+use Rattle.cjc_world.specs.ClassFile.declared.tree.ClassTree.{ClassTree}
 use Rattle.cjc_components.specs.Package.{Package, world}
 use Rattle.cjc_shape_proof.specs.LowerJudge.declared.judged.Judged.{Judged}
 use Rattle.cjc_token_proof.specs.List.Listed.{ListTree}

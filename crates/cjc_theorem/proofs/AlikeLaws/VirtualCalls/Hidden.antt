@@ -12,15 +12,15 @@ use Rattle.cjc_bytes.specs.declared.fault.MemberId.{MemberId}
 use Rattle.cjc_bytes.specs.declared.settings.Settings.{Settings}
 use Rattle.cjc_bytes.proofs.Lists.{bytes_true, none_left, none_right}
 use Rattle.cjc_bytes.proofs.BrokenRules.{not_broken, each_at}
-use Rattle.cjc_code.specs.ClassFile.declared.tree.ClassTree.{ClassTree}
-use Rattle.cjc_code.specs.declared.method_code.MethodCode.{MethodCode}
+use Rattle.cjc_world.specs.ClassFile.declared.tree.ClassTree.{ClassTree}
+use Rattle.cjc_components.specs.Bytecode.declared.method_code.MethodCode.{MethodCode}
 use Rattle.cjc_world.specs.ExportFile.declared.tree.ExportClass.{ExportClass}
 use Rattle.cjc_world.specs.ExportFile.declared.tree.ExportTree.{ExportTree}
-use Rattle.cjc_subset.specs.Checks.{check_breaks, class_breaks, code_breaks, list_breaks, own_breaks}
-use Rattle.cjc_subset.specs.Members.{imports}
-use Rattle.cjc_subset.specs.Overriding.{gets_hidden, hides_added, hides_one, is_open, is_out_of_sight}
-use Rattle.cjc_subset.specs.Overriding.{is_package_visible, is_superclass}
-use Rattle.cjc_subset.specs.Places.{at_class}
+use Rattle.cjc_token_proof.specs.Subset.Checks.{check_breaks, class_breaks, code_breaks, list_breaks, own_breaks}
+use Rattle.cjc_token_proof.specs.Subset.Members.{imports}
+use Rattle.cjc_token_proof.specs.Subset.Overriding.{gets_hidden, hides_added, hides_one, is_open, is_out_of_sight}
+use Rattle.cjc_token_proof.specs.Subset.Overriding.{is_package_visible, is_superclass}
+use Rattle.cjc_token_proof.specs.Subset.Places.{at_class}
 use Rattle.cjc_tokens.specs.Lines.{Declared, Imported, line_in}
 use Rattle.cjc_tokens.specs.Members.{In, Signature, all_methods, first_of, has, is_exposed, is_shown, later, same}
 use Rattle.cjc_tokens.specs.Members.{signature_of, signatures}

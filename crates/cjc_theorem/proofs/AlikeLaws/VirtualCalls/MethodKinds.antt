@@ -10,14 +10,17 @@ use Rattle.cjc_bytes.specs.declared.settings.Settings.{Settings}
 use Rattle.cjc_bytes.proofs.Lists.{bytes_true, none_left, none_right}
 use Rattle.cjc_bytes.proofs.BrokenRules.{not_broken, each_at}
 use Rattle.cjc_token_proof.proofs.WorldProofOwn.{mapped_at}
-use Rattle.cjc_code.specs.ClassFile.declared.tree.ClassTree.{ClassTree}
-use Rattle.cjc_code.specs.ClassFile.declared.tree.MethodTree.{MethodTree}
-use Rattle.cjc_code.specs.declared.method_code.MethodCode.{MethodCode}
-use Rattle.cjc_subset.specs.Checks.{check_breaks, class_breaks, code_breaks, field_breaks, list_breaks, method_breaks}
-use Rattle.cjc_subset.specs.Checks.{own_breaks}
-use Rattle.cjc_subset.specs.Overriding.{changes_kind, class_against, hides_one, is_inherited, is_of_other_kind}
-use Rattle.cjc_subset.specs.Overriding.{is_special, supertype_breaks, lacks_code, method_against, overriding_breaks}
-use Rattle.cjc_subset.specs.Places.{at_class, at_method}
+use Rattle.cjc_world.specs.ClassFile.declared.tree.ClassTree.{ClassTree}
+use Rattle.cjc_world.specs.ClassFile.declared.tree.MethodTree.{MethodTree}
+use Rattle.cjc_components.specs.Bytecode.declared.method_code.MethodCode.{MethodCode}
+use Rattle.cjc_token_proof.specs.Subset.Checks.{check_breaks, class_breaks, code_breaks, field_breaks, list_breaks}
+use Rattle.cjc_token_proof.specs.Subset.Checks.{method_breaks}
+use Rattle.cjc_token_proof.specs.Subset.Checks.{own_breaks}
+use Rattle.cjc_token_proof.specs.Subset.Overriding.{changes_kind, class_against, hides_one, is_inherited}
+use Rattle.cjc_token_proof.specs.Subset.Overriding.{is_of_other_kind}
+use Rattle.cjc_token_proof.specs.Subset.Overriding.{is_special, supertype_breaks, lacks_code, method_against}
+use Rattle.cjc_token_proof.specs.Subset.Overriding.{overriding_breaks}
+use Rattle.cjc_token_proof.specs.Subset.Places.{at_class, at_method}
 use Rattle.cjc_tokens.specs.Members.{In, Signature, first_of, later, signature_of}
 use Rattle.cjc_tokens.proofs.Facts.{same-refl}
 use Rattle.cjc_world.specs.Upwards.{OnLine, up}

@@ -10,8 +10,8 @@ use Rattle.cjc_token_proof.proofs.WorldProofOwn.{mapped_at}
 use Rattle.cjc_shape_proof.specs.WorldProof.Calls.Solid.{IsSolid}
 use Rattle.cjc_token_proof.proofs.WorldProofTypes.{receiver_class}
 use Rattle.cjc_token_proof.specs.Calls.Selecting.{signature}
-use Rattle.cjc_code.specs.ClassFile.declared.tree.ClassTree.{ClassTree}
-use Rattle.cjc_code.specs.declared.insn.JOp.TheVariants as jop
+use Rattle.cjc_world.specs.ClassFile.declared.tree.ClassTree.{ClassTree}
+use Rattle.cjc_components.specs.Bytecode.declared.insn.JOp.TheVariants as jop
 use Rattle.cjc_components.specs.Package.{Package, world}
 use Rattle.cjc_shape_proof.specs.LowerJudge.Rules.{settings_of}
 use Rattle.cjc_shape_proof.specs.LowerJudge.declared.judged.Judged.{Judged}
@@ -21,8 +21,8 @@ use Rattle.cjc_token_proof.specs.Narrow.Rows.Resolved.{method_found}
 use Rattle.cjc_narrow_proof.specs.Laws.Unbroken.{IsInsnOf, IsUnbroken}
 use Rattle.cjc_narrow_proof.proofs.LawsLaws.Own.{class_by_name, first_here, own_kept}
 use Rattle.cjc_ncode.specs.ByLabel.{OnSuper}
-use Rattle.cjc_subset.specs.Members as subset
-use Rattle.cjc_subset.specs.Names.{is_bodiless, is_unfit_super}
+use Rattle.cjc_token_proof.specs.Subset.Members as subset
+use Rattle.cjc_token_proof.specs.Subset.Names.{is_bodiless, is_unfit_super}
 use Rattle.cjc_tokens.specs.Lines.{line_of}
 use Rattle.cjc_tokens.specs.Members.{In, Signature, all_methods, chosen, is_exposed, is_initialiser, is_shown}
 use Rattle.cjc_tokens.specs.Members.{is_virtual, signature_of}

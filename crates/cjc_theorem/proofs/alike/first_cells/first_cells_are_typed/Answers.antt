@@ -1,4 +1,4 @@
-use Rattle.cjc_code.specs.PackageCodes.{all_codes}
+use Rattle.cjc_components.specs.Bytecode.PackageCodes.{all_codes}
 use Rattle.cjc_theorem.proofs.AlikeLaws.FirstCells.Cells.{first_cells}
 use Rattle.cjc_theorem.proofs.AlikeLaws.FirstCells.Converted.{image_fits}
 use Rattle.cjc_theorem.proofs.alike.first_cells.first_cells_are_typed.Goals as goal

@@ -1,4 +1,4 @@
-use Rattle.cjc_code.specs.PackageCodes.{all_codes}
+use Rattle.cjc_components.specs.Bytecode.PackageCodes.{all_codes}
 use Rattle.cjc_theorem.proofs.AlikeLaws.InsnNames.Named.{names_what_is_there}
 use Rattle.cjc_theorem.proofs.AlikeLaws.InsnNames.Sources.{insn_of}
 use Rattle.cjc_theorem.proofs.alike.insn_names.instructions_name_what_is_there.Goals as goal

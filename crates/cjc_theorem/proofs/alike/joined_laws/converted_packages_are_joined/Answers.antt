@@ -1,5 +1,7 @@
-use Rattle.cjc_code.specs.PackageCodes.{all_codes}
+use Rattle.cjc_components.specs.Bytecode.PackageCodes.{all_codes}
+use Rattle.cjc_components.specs.Package.{pool}
 use Rattle.cjc_theorem.proofs.AlikeLaws.JoinedLaws.Faults.{faults_are_classes}
+use Rattle.cjc_token_proof.specs.Narrow.Rows.Selected.{near_fields}
 use Rattle.cjc_theorem.proofs.alike.joined_laws.converted_packages_are_joined.Goals as goal
 use Rattle.cjc_shape_proof.specs.LowerJudge.Rules.{settings_of}
 use Rattle.cjc_shape_proof.proofs.WrittenLaws.Files.{is_kept}
@@ -29,11 +31,12 @@ returns c = λ list files judged p is sends.
       there = there;
       exports = exports;
       cells = c.first_cells_are_typed.ensures.converted list files judged p is;
-      operations = λ m k insn among at. c.operations_are_known.ensures.known list codes laid.rows p laid.is_package
-          names m k insn among at;
+      operations = λ m k insn among at. c.operations_are_known.ensures.known p (near_fields (pool p))
+          (c.code_names_as_written.ensures list codes laid.rows p laid.is_package) names m k insn among at;
       calls = λ m known. c.operations_are_known.ensures.calls p calls m known;
-      takes = λ m k known words. c.calls_take_words.ensures list.name list codes laid.rows p sound laid.is_package ready
-          small keeps subtypes tokens exports m (c.operations_are_known.ensures.calls p calls m known)
+      takes = λ m k known words. c.calls_take_words.ensures list.name p sound ready methods
+          (c.methods_take_their_words.ensures list p.files codes laid.rows p laid.is_package) small keeps subtypes
+          tokens exports m (c.operations_are_known.ensures.calls p calls m known)
           (c.operations_are_known.ensures.words p calls m known) k words;
       receives = objects;
       sent = λ kind id thing. c.sent_methods_begin_alike.ensures list.name p sound ready methods small keeps subtypes

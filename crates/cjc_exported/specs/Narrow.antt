@@ -1,0 +1,2 @@
+-- What crates above take of LowerNarrow.
+pub use Rattle.cjc_components.specs.LowerNarrow.Rows as Rows

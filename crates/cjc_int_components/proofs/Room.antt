@@ -1,0 +1,211 @@
+-- Room for methods by their modes, and the limits of a package without int mode.
+use Rattle.std.proofs.Common.{◌≡◌, ◌<◌, ◌≤◌, ◌+◌, ℕ, zero, suc, arith, refl, sym, ap, subst, ◌∙◌, Bool, true, false}
+use Rattle.std.proofs.Common.{List}
+use Rattle.std.proofs.Common.{[], ◌∷◌, ◌++◌}
+use Rattle.std.specs.Prelude.{Option, Some, None, not, nat_lt, ◌&&◌, ◌||◌, if◌then◌else◌, slice_get}
+use Rattle.std.specs.List.{Contains, flat_map, list_any}
+use Rattle.std.proofs.lemmas.Bool.{ltb-false, ltb-true}
+use Rattle.cjc_check_proof.proofs.BytesBools.{or_left, or_right}
+use Rattle.cjc_check_proof.proofs.BytesGets.{any_at, any_off}
+use Rattle.cjc_int_narrow.specs.Bytes.Breaks.{Break, at}
+use Rattle.cjc_int_narrow.specs.Bytes.AccessFlags.{is_static}
+use Rattle.cjc_int_narrow.specs.Bytecode.PackageCodes.{all_codes}
+use Rattle.cjc_int_narrow.specs.Bytecode.declared.insn.JInsn.{JInsn}
+use Rattle.cjc_int_narrow.specs.Bytecode.declared.method_code.MethodCode.{MethodCode}
+use Rattle.cjc_int_narrow.specs.ClassFile.Code.{CodeTree}
+use Rattle.cjc_int_narrow.specs.ClassFile.declared.tree.ClassTree.{ClassTree}
+use Rattle.cjc_int_narrow.specs.ClassFile.declared.tree.MethodTree.{MethodTree}
+use Rattle.cjc_int_narrow.specs.CardSemantics.Bytecode.Arguments.{widths}
+use Rattle.cjc_int_narrow.specs.Script.Sorts.{OfClass, Reference, Signature, signature_of}
+use Rattle.cjc_int_narrow.specs.World.Classes.{Class, Member, all_classes, class_at}
+use Rattle.cjc_int_narrow.specs.World.Files.{Files}
+use Rattle.cjc_int_narrow.specs.LowerSubset.Ints.{code_works_on_int}
+use Rattle.cjc_check_proof.specs.Tokens.Members.{is_initialiser}
+use Rattle.cjc_check_proof.specs.Types.Flow.{Body, body_of}
+use Rattle.cjc_check_proof.specs.Types.Search.{cells_of}
+use Rattle.cjc_check_proof.specs.Types.Tables.{IsMethodOf}
+use Rattle.cjc_check_proof.specs.Types.declared.cell.Cell.{Cell}
+use Rattle.cjc_check_proof.specs.Types.declared.cell.Cell.TheVariants as cells
+use Rattle.cjc_check_proof.specs.Types.declared.state.State.{State}
+use Rattle.cjc_check_proof.specs.Intervals.Frames.{RangeState}
+use Rattle.cjc_check_proof.specs.JvmSemantics.Linked.{Method}
+use Rattle.cjc_check_proof.specs.JvmSemantics.OnePackage.{method_at, method_by}
+use Rattle.cjc_int_narrow.specs.LowerNarrow.Rows.Package.{flags_of, read_of}
+use Rattle.cjc_int_narrow.specs.LowerNarrow.Rows.Resolved as resolved
+use Rattle.cjc_check_proof.specs.LowerComponents.Descriptor.{method_in}
+use Rattle.cjc_check_proof.specs.LowerComponents.Limits.{else_of, form_breaks, has_many_words, in_class, int_breaks}
+use Rattle.cjc_check_proof.specs.LowerComponents.Limits.{limit_breaks, method_spot, of_methods, size_breaks}
+use Rattle.cjc_check_proof.specs.LowerComponents.Limits.{spot_of_list, word_breaks}
+use Rattle.cjc_check_proof.specs.LowerComponents.Package.{LaidMethod, Package, world}
+use Rattle.cjc_check_proof.specs.NarrowProof.Selected.Keeps.{FindsItself}
+use Rattle.cjc_int_narrow.proofs.IntModeNamed.{names_same}
+use Rattle.cjc_int_narrow.specs.LowerIntMode.Modes.{IsModeOf, by_name, names_int}
+use Rattle.cjc_int_narrow.specs.LowerIntMode.Room.{IsRoom, LacksRoom, an_unusable_cell, high_stack, many_arguments}
+use Rattle.cjc_int_narrow.specs.LowerIntMode.Room.{many_words}
+use Rattle.cjc_int_narrow.specs.LowerIntMode.Written.{argument_words, local_words, params_by, stack_words}
+use Rattle.cjc_int_narrow.specs.LowerIntMode.declared.modes.Mode.{Mode}
+use Rattle.cjc_int_narrow.specs.LowerIntMode.declared.modes.Mode.TheVariants as modes
+use Rattle.cjc_int_components.specs.Components.{has_int_mode, is_in_int_mode}
+use Rattle.cjc_int_components.specs.Limits.{code_breaks_by_modes, has_unusable_cell, int_breaks_by_modes, is_unusable}
+use Rattle.cjc_int_components.specs.Limits.{lacks_int_room, lacks_room, limit_breaks_by_modes, word_breaks_by_modes}
+use Rattle.cjc_int_components.specs.Modes.{AreModes, Tables, is_int}
+use Rattle.cjc_int_components.proofs.ByModes.{or_false}
+use Rattle.cjc_int_components.proofs.ByTables.{insns_are}
+
+-- ---- room in int mode
+
+module _ (b : Body) (types : List (Option State)) where
+  abbrev words : ℕ
+  words = argument_words b + local_words b types
+
+  abbrev unusable : Bool
+  unusable = list_any has_unusable_cell types
+
+  few_words : lacks_room b types ≡ false → words ≤ 255
+  few_words off = ltb-false 255 words (or_left (nat_lt 255 words) (nat_lt 255 (stack_words b) || unusable) off)
+
+  has_room : lacks_room b types ≡ false → LacksRoom b types modes.Int → ⊥
+  has_room off (many_arguments gt) = let le = few_words off in omega (arith, gt, le)
+  has_room off (many_words gt) = let le = few_words off in omega (arith, gt, le)
+  has_room off (high_stack gt) =
+      let rest = or_right (nat_lt 255 words) (nat_lt 255 (stack_words b) || unusable) off in
+      let le = ltb-false 255 (stack_words b) (or_left (nat_lt 255 (stack_words b)) unusable rest) in
+      omega (arith, gt, le)
+  has_room off (an_unusable_cell place k x row cell) =
+      let rest = or_right (nat_lt 255 words) (nat_lt 255 (stack_words b) || unusable) off in
+      let none = or_right (nat_lt 255 (stack_words b)) unusable rest in
+      let here = any_off has_unusable_cell types place (Some x) none row in
+      let no = any_off is_unusable (cells_of x.stack) k cells.Unusable here cell in
+      cc
+
+  unusable_one : (c : Cell) → is_unusable c ≡ true → c ≡ cells.Unusable
+  unusable_one cells.Unusable e = refl
+  unusable_one _ e = absurd cc
+
+  unusable_there : (place : ℕ) (row : Option State) → slice_get types place ≡ Some row → has_unusable_cell row ≡ true
+      → LacksRoom b types modes.Int
+  unusable_there place None at e = absurd cc
+  unusable_there place (Some x) at e =
+      let c = any_at is_unusable (cells_of x.stack) e in
+      an_unusable_cell place c.0 x at (c.2 ∙ ap Some (unusable_one c.1 c.3))
+
+  lacks : lacks_room b types ≡ true → LacksRoom b types modes.Int
+  lacks on = by (nat_lt 255 words) (nat_lt 255 (stack_words b)) refl refl on
+    where
+      by : (x y : Bool) → nat_lt 255 words ≡ x → nat_lt 255 (stack_words b) ≡ y → (x || (y || unusable)) ≡ true
+          → LacksRoom b types modes.Int
+      by true y p q e = many_words (ltb-true 255 words p)
+      by false true p q e = high_stack (ltb-true 255 (stack_words b) q)
+      by false false p q e = let row = any_at has_unusable_cell types e in unusable_there row.0 row.1 row.2 row.3
+
+  told_in_int_mode : IsRoom b types modes.Int (not (lacks_room b types))
+  told_in_int_mode = by (lacks_room b types) refl
+    where
+      by : (l : Bool) → lacks_room b types ≡ l → IsRoom b types modes.Int (not l)
+      by true e = lacks e
+      by false e = has_room e
+
+module _ (files : Files) (code : MethodCode) (class : ClassTree) (method : MethodTree) (tree : CodeTree)
+    (is : IsMethodOf files code class method tree) (found : FindsItself files class method) (t : Tables) where
+  abbrev x : Method
+  x = method_by class method (Some tree)
+
+  pub room_in_int_mode : t.mode x ≡ modes.Int → IsRoom (body_of class method tree code.insns) (t.types x) modes.Int
+      (not (lacks_int_room t files (Some x)))
+  room_in_int_mode mode =
+      let same : lacks_int_room t files (Some x) ≡ lacks_room (body_of class method tree code.insns) (t.types x) =
+      ap (λ (q : Mode). is_int q && lacks_room (read_of x (flags_of (resolved.method_found (all_classes files) x.id)))
+      (t.types x)) mode
+      ∙ ap (λ flags. lacks_room (read_of x flags) (t.types x)) found
+      ∙ ap (λ (insns : List JInsn). lacks_room (body_of class method tree insns) (t.types x))
+      (insns_are files code class method tree is) in
+      subst (λ l. IsRoom (body_of class method tree code.insns) (t.types x) modes.Int (not l)) (sym same)
+      (told_in_int_mode (body_of class method tree code.insns) (t.types x))
+
+-- ---- room outside int mode
+
+pub same_words : (b : Body) → resolved.argument_words b.flags b.desc ≡ argument_words b
+same_words b = by (is_static b.flags) (signature_of b.desc)
+  where
+    by : (s : Bool) (o : Option Signature) → (if s then 0 else 1) + resolved.parameter_words o
+        ≡ widths ((if s then [] else Reference (OfClass b.class) ∷ []) ++ params_by o)
+    by true None = refl
+    by true (Some types) = omega arith
+    by false None = refl
+    by false (Some types) = refl
+
+short_lacks : (b : Body) (types : List (Option State)) → argument_words b ≤ 255 → LacksRoom b types modes.Short → ⊥
+short_lacks b types few (many_arguments gt) = omega (arith, few, gt)
+
+pub room_outside : (b : Body) (types : List (Option State)) (m : Member) → m.flags ≡ b.flags → m.desc ≡ b.desc
+    → IsRoom b types modes.Short (not (has_many_words m))
+room_outside b types m flags desc = by (has_many_words m) refl
+  where
+    same : resolved.argument_words m.flags m.desc ≡ argument_words b
+    same = ap (λ f. resolved.argument_words f m.desc) flags ∙ ap (λ d. resolved.argument_words b.flags d) desc
+        ∙ same_words b
+
+    by : (l : Bool) → has_many_words m ≡ l → IsRoom b types modes.Short (not l)
+    by true e = let gt = ltb-true 255 (resolved.argument_words m.flags m.desc) e in let eq = same in
+        many_arguments (omega (arith, gt, eq))
+    by false e = let le = ltb-false 255 (resolved.argument_words m.flags m.desc) e in let eq = same in
+        short_lacks b types (omega (arith, le, eq))
+
+-- ---- a package without int mode
+
+flat_where : (f g : LaidMethod → List Break) (ms : List LaidMethod) → ((k : ℕ) (m : LaidMethod) → slice_get ms k
+    ≡ Some m → f m ≡ g m) → flat_map f ms ≡ flat_map g ms
+flat_where f g [] same = refl
+flat_where f g (m ∷ ms) same =
+    ap (λ bs. bs ++ flat_map f ms) (same 0 m refl)
+    ∙ ap (λ bs. g m ++ bs) (flat_where f g ms (λ k x e. same (suc k) x e))
+
+module _ (t : Tables) (p : Package) (off : has_int_mode t p ≡ false) where
+  no_lack : (o : Option Method) → is_in_int_mode t o ≡ false → lacks_int_room t p.files o ≡ false
+  no_lack None e = refl
+  no_lack (Some m) e =
+      ap (λ b. b && lacks_room (read_of m (flags_of (resolved.method_found (all_classes p.files) m.id))) (t.types m)) e
+
+  one_word : (k : ℕ) (m : LaidMethod) → slice_get p.methods k ≡ Some m → (o : Option Class)
+      → in_class (word_breaks_by_modes t p) m o ≡ in_class (word_breaks p) m o
+  one_word k m e None = refl
+  one_word k m e (Some c) =
+      let member : Member = method_in (world p) c m.member.member in
+      let short = any_off (λ (x : LaidMethod). is_in_int_mode t (method_at p.files x.member)) p.methods k m off e in
+      ap (λ b. at (has_many_words member || b) (method_spot p c m.member member 0) 417)
+      (no_lack (method_at p.files m.member) short)
+      ∙ ap (λ b. at b (method_spot p c m.member member 0) 417) (or_false (has_many_words member))
+
+  pub words_as_before : of_methods p (word_breaks_by_modes t p) ≡ of_methods p (word_breaks p)
+  words_as_before =
+      flat_where (λ m. in_class (word_breaks_by_modes t p) m (class_at (world p) m.member.imported m.member.class))
+      (λ m. in_class (word_breaks p) m (class_at (world p) m.member.imported m.member.class)) p.methods
+      (λ k m e. one_word k m e (class_at (world p) m.member.imported m.member.class))
+
+  pub limits_as_before : int_breaks p ≡ [] → limit_breaks_by_modes t p ≡ limit_breaks p
+  limits_as_before none =
+      let mine : int_breaks_by_modes t p ≡ [] = ap (λ b. at b (spot_of_list p) 801) off in
+      ap (λ ws. else_of ws (else_of (code_breaks_by_modes t p) (size_breaks p))) words_as_before
+      ∙ ap (λ bs. else_of (of_methods p (word_breaks p)) (else_of (else_of bs (form_breaks p)) (size_breaks p)))
+      (mine ∙ sym none)
+
+-- ---- what works on int
+
+named_in_int_mode : (b : Body) (types : List (Option State)) (ranges : List (Option RangeState)) (mode : Mode)
+    → mode ≡ modes.Short → IsModeOf true b types ranges mode → names_int b ≡ false
+named_in_int_mode b types ranges modes.Int e needed = absurd cc
+named_in_int_mode b types ranges modes.Short e free = by (names_int b) refl
+  where
+    by : (n : Bool) → names_int b ≡ n → n ≡ false
+    by true e = absurd (free (record { allowed = refl; needed = by_name e }))
+    by false e = refl
+
+pub works_in_int_mode : (files : Files) (t : Tables) → AreModes true files t → (code : MethodCode) (class : ClassTree)
+    (method : MethodTree) (tree : CodeTree) → Contains (all_codes files.classes) code
+    → IsMethodOf files code class method tree → is_initialiser method.name ≡ false
+    → t.mode (method_by class method (Some tree)) ≡ modes.Short → code_works_on_int files code ≡ false
+works_in_int_mode files t are code class method tree there is written short =
+    let x : Method = method_by class method (Some tree) in
+    names_same files code class method tree is
+    ∙ named_in_int_mode (body_of class method tree code.insns) (t.types x) (t.ranges x) (t.mode x) short
+    (are.with_code code class method tree there is written)

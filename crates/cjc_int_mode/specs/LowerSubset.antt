@@ -1,0 +1,2 @@
+-- What crates above take of cjc_subset.
+pub use Rattle.cjc_subset.specs.Ints as Ints

@@ -1,0 +1,11 @@
+pub mod Begun
+pub mod Cells
+pub mod Images
+pub mod Imports
+pub mod Loading
+pub mod Memory
+pub mod Naming
+pub mod Parts
+pub mod Sound
+pub mod Towers
+pub mod Worlds
