@@ -72,7 +72,7 @@ module _ (by : Linked) (l : Named) (tb : Table) (bodies : Method → Option IntB
           (receiver : Option (Shape (List ℕ) → Bool)) (insn : NInsn) → signature_of id.desc ≡ Some types
           → p.stack ≡ onto params (below_params receiver ks) → PassesWords types.params params
           → IsAtPlace by l tb m at p i insn (spot tb m at)
-          → ((locals : List (Option Value)) (store : Store) (vs : List Value) → named_effect by l tb m at p i locals store
+          → ((cells : List (Option Value)) (store : Store) (vs : List Value) → named_effect by l tb m at p i cells store
           vs ≡ by_name.Invoke op id)
           → ((words : List (Option Value)) (memory : NMemory) (ws : List Value)
           → narrow_effect by l tb m at p i insn (spot tb m at + 1) words memory ws ≡ narrow.Invoke callee)
@@ -85,9 +85,9 @@ module _ (by : Linked) (l : Named) (tb : Table) (bodies : Method → Option IntB
 
     -- ---- a package
 
-    -- Methods in int mode are written, with enough known before each instruction; each reached instruction of the others
-    -- keeps its rule; what a script names is found alike and begins
-    -- alike; and acts, answers, exceptions and the first state are alike.
+    -- Methods in int mode are written, with enough known before each instruction; each reached instruction of others
+    -- keeps its rule; what a script names is found alike and begins alike; and acts, answers, exceptions and the first
+    -- state are alike.
     pub record PackageIsFine : Type 0 where
       pub int_methods : (m : Method) (b : IntBody) → bodies m ≡ Some b
           → IntMethodIsWritten by l (StandsByMode l tb bodies) results tb.narrowed tb.may_throw b m

@@ -9,7 +9,8 @@ use std::test::*;
 
 const LIST: &[u8] = b"package p A000000001 1.0\nexport lang.exp\nclass T.class\n";
 
-/// A folder of the list, what it names, a script, and a text that names the one package. The calls with these numbers fail.
+/// A folder of the list, what it names, a script, and a text that names the one package. The calls with these numbers
+/// fail.
 pub(crate) fn folder(alloc: Global, failing: Row<u32>) -> Result<MemShelf, NoMemory> {
     let mut shelf = MemShelf::new(alloc, failing);
     shelf.add(b"list", LIST)?;
