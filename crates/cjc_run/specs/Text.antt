@@ -21,7 +21,7 @@ shown_part (c ∷ part) = c ∷ part
 -- the forms of the words
 abbrev pub usage_line : List ℕ
 usage_line = codes
-    "usage: jcconv convert LIST DIR, check LIST DIR, jvm LIST SCRIPT N, card LIST DIR SCRIPT N, make NUMBER SIZE, verify LIST DIR, compat OLD NEW, link GROUP SCRIPT N, linkjvm GROUP SCRIPT N"
+    "usage: jcconv convert LIST DIR, check LIST DIR, jvm LIST SCRIPT N, card LIST DIR SCRIPT N, make NUMBER SIZE, verify LIST DIR, link GROUP SCRIPT N, linkjvm GROUP SCRIPT N, compat OLD NEW"
     ++ line_feed
 
 -- which rule is broken, and where

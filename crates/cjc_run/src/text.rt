@@ -11,7 +11,7 @@ use cjc_shelf::{Sink, SinkFailed};
 use itoa::Buffer;
 
 const USAGE: &[u8] =
-    b"usage: jcconv convert LIST DIR, check LIST DIR, jvm LIST SCRIPT N, card LIST DIR SCRIPT N, make NUMBER SIZE, verify LIST DIR, compat OLD NEW, link GROUP SCRIPT N, linkjvm GROUP SCRIPT N\n";
+    b"usage: jcconv convert LIST DIR, check LIST DIR, jvm LIST SCRIPT N, card LIST DIR SCRIPT N, make NUMBER SIZE, verify LIST DIR, link GROUP SCRIPT N, linkjvm GROUP SCRIPT N, compat OLD NEW\n";
 
 /// Puts the line of the status, and nothing at Done.
 ///
