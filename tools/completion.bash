@@ -1,7 +1,7 @@
 # Completes the words of jcconv in bash:  . tools/completion.bash
 _jcconv() {
     local word=${COMP_WORDS[COMP_CWORD]} kind="" page
-    local words="convert check jvm card make verify compat link linkjvm explain pack unpack advise help --help --version --prove"
+    local words="convert check jvm card make verify link linkjvm compat explain pack unpack advise help --help --version --prove"
     COMPREPLY=()
     if [ "$COMP_CWORD" -eq 1 ]; then
         mapfile -t COMPREPLY < <(compgen -W "$words" -- "$word")

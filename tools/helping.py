@@ -34,10 +34,6 @@ WORDS = {
         tests the types of the components in the folder DIR against the class files that the list names: whether each
         instruction finds what it needs; prints ok, and writes nothing""",
         "cd examples/wallet && ../../jcconv verify list out"),
-    "compat": ("compat OLD NEW", """
-        tells whether a new version of a package may stand in the place of the old one, by their export files; prints
-        ok, and writes nothing""",
-        "cd tests/cases/compat_a_new_method && ../../../jcconv compat in/old.exp in/new.exp"),
     "link": ("link GROUP SCRIPT N", """
         runs at most N instructions of the components of several packages together, as card runs those of one; GROUP
         has a line LIST DIR for each, a package behind those that it imports""",
@@ -45,6 +41,10 @@ WORDS = {
     "linkjvm": ("linkjvm GROUP SCRIPT N", """
         runs at most N instructions of the class files of several packages together, as jvm runs those of one""",
         "cd examples/loyalty && ../../jcconv linkjvm group script 10000"),
+    "compat": ("compat OLD NEW", """
+        tells whether a new version of a package may stand in the place of the old one, by their export files; prints
+        ok, and writes nothing""",
+        "cd tests/cases/compat_a_new_method && ../../../jcconv compat in/old.exp in/new.exp"),
     "explain": ("explain RULE, explain 'REFUSAL' [LIST], explain - [LIST]", """
         what a refusal means, where in the source it points, and how to repair it: by the number of a rule, the whole
         line, or the line on standard input""",

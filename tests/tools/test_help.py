@@ -38,7 +38,7 @@ class Help(unittest.TestCase):
             run = jcconv(*words)
             self.assertEqual((run.status, run.out), (1, ""))
             self.assertEqual(run.err, "jcconv: there is no word what; there are: convert, check, jvm, card, make,"
-                                      " verify, compat, link, linkjvm, explain, pack, unpack, advise\n")
+                                      " verify, link, linkjvm, compat, explain, pack, unpack, advise\n")
 
     def test_words_that_stand_alone(self):
         for words in (["--help", "pack"], ["-h", "-h"], ["--version", "now"], ["--prove", "now"], ["--prove", "-h"]):
@@ -71,7 +71,7 @@ class Help(unittest.TestCase):
     def test_forms_are_those_of_the_program(self):
         page = read(TOP, "docs", "COMMANDS.md").decode()
         usage = re.search(r"`usage: jcconv (.*?)`", page)[1]
-        words = ("convert", "check", "jvm", "card", "make", "verify", "compat", "link", "linkjvm")
+        words = ("convert", "check", "jvm", "card", "make", "verify", "link", "linkjvm", "compat")
         forms = [helping.WORDS[word][0] for word in words]
         self.assertEqual(usage.split(", "), forms)
 
