@@ -1,0 +1,285 @@
+-- What is asked of a package by modes is what whole runs by modes ask of its tables.
+use Rattle.std.proofs.Common.{◌≡◌, ℕ, zero, suc, Bool, true, false, ◌&&◌, List, [], ◌∷◌, map, slice_get, Option, Some}
+use Rattle.std.proofs.Common.{None, option_map, refl, ap, subst, ◌∙◌}
+use Rattle.std.specs.Prelude.{if◌then◌else◌, codes, is_some}
+use Rattle.std.specs.List.{AllByRecursion}
+use Rattle.cjc_bytes.specs.Descriptor.{Part, IsClassName}
+use Rattle.cjc_bytes.specs.declared.fault.MemberId.{MemberId}
+use Rattle.cjc_bytes.proofs.Bools.{and_true}
+use Rattle.cjc_script.specs.declared.value.Value.TheVariants.{Num}
+use Rattle.cjc_script.specs.declared.report.FieldValue.{FieldValue}
+use Rattle.cjc_script.specs.declared.report.Thing.TheVariants as things
+use Rattle.cjc_script.specs.Sorts.{Shape, OfClass, Reference, array_name, shape_name, sort_of}
+use Rattle.cjc_world.specs.Classes.{Class, all_classes, class_named}
+use Rattle.cjc_world.specs.Files.{Files}
+use Rattle.cjc_world.specs.Subtype.{is_subtype}
+use Rattle.cjc_world.specs.declared.image.ArrayCell.{ArrayCell}
+use Rattle.cjc_world.specs.declared.image.StaticImage.{StaticImage}
+use Rattle.cjc_types.specs.Types.{parts}
+use Rattle.cjc_card_semantics.specs.Bytecode.Effects.{HeapObject}
+use Rattle.cjc_world.proofs.Subtypes.{reflexive, transitive}
+use Rattle.cjc_ncode.specs.ByLabel.{Named, by_label, shown_slot}
+use Rattle.cjc_jvm_semantics.specs.Linked.{Method, Linked}
+use Rattle.cjc_jvm_semantics.specs.Effects.{Fault, Arithmetic, NullPointer, IndexOutside, NegativeSize, ClassCast}
+use Rattle.cjc_jvm_semantics.specs.Effects.{ArrayStore, exception_class}
+use Rattle.cjc_jvm_semantics.specs.OnePackage.{is_plain_import, static_array, cells}
+use Rattle.cjc_jvm_semantics.specs.ByName.{linked}
+use Rattle.cjc_narrow_proof.specs.Selection.Relation.{Heap, HasObjects, made, bare, ThingFits, numbers, Stores, shown}
+use Rattle.cjc_narrow_proof.specs.Selection.Rows.{narrow_fault}
+use Rattle.cjc_narrow_proof.specs.Selection.Replies.{is_of_some, may_be_thrown, ThrowsAlike}
+use Rattle.cjc_narrow_proof.specs.Selection.Acts.{ActsAreTold}
+use Rattle.cjc_narrow_proof.proofs.SelectionLaws.ActsDone.{acts_alike}
+use Rattle.cjc_narrow_proof.specs.Selection.Tables.{MayRaise}
+use Rattle.cjc_narrow_proof.specs.Selection.Throws.{IsRaised}
+use Rattle.cjc_narrow_proof.specs.Selection.Reached.{IsAnswered}
+use Rattle.cjc_narrow_proof.specs.Tables.Analysis.{TypesAreTold, table_of}
+use Rattle.cjc_narrow_proof.specs.Tables.Arrays.{ClassesAreNamed}
+use Rattle.cjc_narrow_proof.proofs.TablesLaws.Spelt.{shape_spelt, class_read}
+use Rattle.cjc_narrow.specs.Rows.Package.{fault_name, name_there, plain_import, start_of, first_array, first_cell}
+use Rattle.cjc_narrow.specs.Rows.Package.{element_of_kind, named}
+use Rattle.cjc_narrow_proof.specs.Runs.Types.{IsThere}
+use Rattle.cjc_types.specs.Search.{cells_of}
+use Rattle.cjc_narrow_proof.specs.Runs.Converted.{IsFirstArray}
+use Rattle.cjc_narrow_proof.specs.Runs.Tables.{Tables}
+use Rattle.cjc_narrow_proof.specs.Tables.Analysis.{Analysis}
+use Rattle.cjc_narrow_proof.proofs.RunsLaws.Calls.{there_by_name}
+use Rattle.cjc_narrow_proof.proofs.RunsLaws.Named.{made_is_there}
+use Rattle.cjc_int_runs.specs.IntFrames.{IntBody}
+use Rattle.cjc_int_runs.specs.Scripted.{AreAsked, none_asked, one_asked}
+use Rattle.cjc_int_alike.specs.ByModes.{analysis_by_mode, bodies_by_mode, body_by, codes_by_mode, look_ups_by_mode}
+use Rattle.cjc_int_alike.specs.ByModes.{result_in}
+use Rattle.cjc_int_alike.specs.Callees.{IsEnteredByMode, IsReachedByMode, IsScriptedByMode, script_finds}
+use Rattle.cjc_int_alike.specs.Callees.{script_finds_none}
+use Rattle.cjc_int_alike.specs.Converted.{IsConvertedByModes, IsFoundByMode, IsIntMember, a_member, no_method}
+use Rattle.cjc_int_alike.specs.Package.{IsModePackage}
+use Rattle.cjc_int_alike.specs.Reached.{IsBegunIn}
+use Rattle.cjc_int_alike.proofs.Modes.{int_begun}
+use Rattle.cjc_int_alike.proofs.Named.{is_supported}
+use Rattle.cjc_int_alike.proofs.Reached.{asks}
+
+-- an imported class, no interface, is one that some file has
+class_there : (o : Option Class) → is_plain_import o ≡ true → (c : Class) × (o ≡ Some c)
+class_there None e = cc
+class_there (Some c) e = (c, refl)
+
+imported_is : (w : List Class) (name : List ℕ) → is_plain_import (class_named w name) ≡ true
+    → plain_import w name ≡ Some name
+imported_is w name e = ap (λ b. if b then Some name else None) e
+
+import_of : (w : List Class) (name other : List ℕ) → plain_import w name ≡ Some other
+    → is_plain_import (class_named w name) ≡ true
+import_of w name other e = go (is_plain_import (class_named w name)) refl e
+  where
+    go : (b : Bool) → is_plain_import (class_named w name) ≡ b → (if b then Some name else None) ≡ Some other
+        → is_plain_import (class_named w name) ≡ true
+    go true is e = is
+    go false is e = cc
+
+same_fault : (fault : Fault) → fault_name (narrow_fault fault) ≡ exception_class fault
+same_fault Arithmetic = refl
+same_fault NullPointer = refl
+same_fault IndexOutside = refl
+same_fault NegativeSize = refl
+same_fault ClassCast = refl
+same_fault ArrayStore = refl
+
+module _ (files : Files) (image : StaticImage) (near : List MemberId) (tables : Tables) (is_int : Method → Bool)
+    (is : IsConvertedByModes files image near tables is_int) where
+  abbrev w : List Class
+  w = all_classes files
+
+  abbrev by : Linked
+  by = linked files image
+
+  abbrev l : Named
+  l = look_ups_by_mode files image near tables is_int
+
+  abbrev a : Analysis
+  a = analysis_by_mode files image near tables is_int
+
+  types_told : TypesAreTold w l
+  unfolding named
+  types_told = record {
+    tells = λ name shape spelt kind. ap (is_subtype w (shape_name kind)) (shape_spelt name shape spelt);
+    itself = reflexive w;
+    through = transitive w;
+  }
+
+  classes_named : ClassesAreNamed w l
+  unfolding named
+  classes_named = record {
+    classes = is.names;
+    objects = λ class objects. of_objects class objects.0 objects.1;
+  }
+    where
+      of_objects : (class : List ℕ) (fields : List MemberId) → HasObjects l class fields → IsClassName class
+      of_objects class fields (made has) = let c = made_is_there w class fields has in is.names class c.0 c.1
+      of_objects class fields (bare none has) = let c = class_there (class_named w class) (import_of w class class has)
+          in is.names class c.0 c.1
+
+  raised : (fault : Fault) → IsRaised l fault
+  unfolding named
+  raised fault =
+      let e = is.exceptions fault in
+      let c = class_there (class_named w (exception_class fault)) e.imported in
+      record {
+        class = ap (name_there w) (same_fault fault) ∙ there_by_name w (exception_class fault) c.0 c.1;
+        imported = imported_is w (exception_class fault) e.imported;
+      }
+
+  exceptions : MayRaise l (table_of l a)
+  exceptions = record { raises = raised; may_raise = λ fault. (let e = is.exceptions fault in e.throwable) }
+
+  thrown : (class : List ℕ) → ThrowsAlike by l class
+  unfolding linked named
+  thrown class = record {
+    tells = go (is_plain_import (class_named w class)) (is_subtype w class (codes "java/lang/Throwable"));
+    imported = λ may. imported_is w class (and_true (is_plain_import (class_named w class))
+        (is_subtype w class (codes "java/lang/Throwable")) may).0;
+  }
+    where
+      go : (a b : Bool) → (if b then (if a then Some class else None) else None) ≡ (if a && b then Some class else None)
+      go true true = refl
+      go true false = refl
+      go false true = refl
+      go false false = refl
+
+  may_be : (class : List ℕ) → may_be_thrown by class ≡ true → is_subtype w class (codes "java/lang/Throwable") ≡ true
+  unfolding linked
+  may_be class may =
+      let both = and_true (is_plain_import (class_named w class)) (is_subtype w class (codes "java/lang/Throwable"))
+      may in
+      both.1
+
+  acts_told : ActsAreTold by l
+  unfolding linked named
+  acts_told = record {
+    there = λ class e. (let c = some_class (class_named w class) e in there_by_name w class c.0 c.1);
+    not_there = λ class e. ap (option_map (λ (c : Class). c.name)) (no_class (class_named w class) e);
+    imported = λ class e. imported_is w class e;
+    not_imported = λ class e. ap (λ b. if b then Some class else None) e;
+    tells = λ of class. refl;
+    spelt = shape_spelt;
+  }
+    where
+      some_class : (o : Option Class) → is_some o ≡ true → (c : Class) × (o ≡ Some c)
+      some_class None e = cc
+      some_class (Some c) e = (c, refl)
+
+      no_class : (o : Option Class) → is_some o ≡ false → o ≡ None
+      no_class None e = refl
+      no_class (Some c) e = cc
+
+  answered : IsAnswered by l (table_of l a)
+  answered = record { acts = acts_alike by l acts_told; throws = thrown; may_throw = may_be }
+
+  may_throw_all : (kind : Shape (List ℕ)) → l.is_of kind (OfClass (codes "java/lang/Throwable")) ≡ true
+      → is_subtype w (shape_name kind) (codes "java/lang/Throwable") ≡ true
+  unfolding named
+  may_throw_all kind e = e
+
+  -- ---- what scripts name
+
+  given : (ps : List Part) → AllByRecursion (λ type. (kind : Shape (List ℕ)) → type ≡ Reference kind
+      → IsThere w kind) (map sort_of ps) → AreAsked by l (map sort_of ps)
+  given [] known = none_asked
+  given (p ∷ ps) known = one_asked (λ kind e. asks files image near tables is_int kind (known.0 kind e))
+      (given ps known.1)
+
+  begun : (on : Bool) (desc : List ℕ) (m : Method) → IsBegunIn files image near tables is_int on desc m
+      → IsReachedByMode by l w a (bodies_by_mode files image near tables is_int)
+      (result_in files image near tables is_int) on desc m
+  begun on desc m h = record { begun = h.begun; desc = h.desc; flags = h.flags }
+
+  entered : (id : MemberId) → IsIntMember files image near tables is_int id → IsEnteredByMode by l w a
+      (bodies_by_mode files image near tables is_int) (result_in files image near tables is_int) id
+  unfolding linked named
+  entered id h = record {
+    desc = h.desc;
+    given = given (let d = parts id.desc in d.params) h.known;
+    called = refl;
+    sent = λ kind. refl;
+    is_called = λ m found. begun false id.desc m (h.is_called m found);
+    is_sent = λ kind m made_there found. begun true id.desc m (h.is_sent kind m made_there found);
+    receives = λ kind m made_there found. (let b = h.is_sent kind m made_there found
+        in let name = class_read (let id = m.id in id.class) b.named in
+        ap (is_of_some l kind) name.class ∙ h.receives kind m made_there found);
+  }
+
+  scripted : (id : MemberId) → IsScriptedByMode by l w a (bodies_by_mode files image near tables is_int)
+      (result_in files image near tables is_int) id
+  unfolding linked named
+  scripted id = go (is.scripted id)
+    where
+      go : IsFoundByMode files image near tables is_int id → IsScriptedByMode by l w a
+          (bodies_by_mode files image near tables is_int) (result_in files image near tables is_int) id
+      go (no_method not_called not_sent) = script_finds_none (record {
+        not_called = not_called;
+        not_sent = λ kind made. not_sent kind made;
+        narrow_not_called = ap (option_map (start_of (codes_by_mode files image near tables is_int))) not_called;
+        narrow_not_sent = λ kind made. ap (option_map (start_of (codes_by_mode files image near tables is_int)))
+            (not_sent kind made);
+      })
+      go (a_member h) = script_finds (entered id h)
+
+  -- ---- what the image says
+
+  first_shown : (arrays : List ArrayCell) → AllByRecursion IsFirstArray arrays → map static_array arrays
+      ≡ map (shown l) (map first_array arrays)
+  unfolding by_label
+  first_shown [] h = refl
+  first_shown (a ∷ arrays) h =
+      let one = h.0 in
+      ap (λ d. things.Array d (map (λ z. Num z) a.items) ∷ map static_array arrays) one.named
+      ∙ ap (λ xs. things.Array (array_name (element_of_kind a.kind)) (map (λ z. Num z) a.items)
+      ∷ xs) (first_shown arrays h.1)
+
+  first_fits : (heap : Heap) (arrays : List ArrayCell) → AllByRecursion IsFirstArray arrays
+      → (k : ℕ) (thing : HeapObject (List ℕ) MemberId) → slice_get (map first_array arrays) k ≡ Some thing
+      → ThingFits l heap thing
+  first_fits heap [] h k thing e = cc
+  first_fits heap (a ∷ arrays) h zero thing e =
+      let one = h.0 in
+      let same : first_array a ≡ thing = cc in
+      subst (ThingFits l heap) same (numbers one.few one.held)
+  first_fits heap (a ∷ arrays) h (suc k) thing e = first_fits heap arrays h.1 k thing e
+
+  cells_shown : (xs : List FieldValue) → xs ≡ map shown_slot (map first_cell xs)
+  cells_shown [] = refl
+  cells_shown (x ∷ xs) = ap (λ ys. x ∷ ys) (cells_shown xs)
+
+  starts : Stores l (record { heap = by.heap; statics = by.statics }) l.memory
+  unfolding linked named
+  starts = record {
+    heap = first_shown image.arrays (let first = is.first in first.arrays);
+    statics = cells_shown (cells image files.classes);
+    heap_fits = first_fits (map first_array image.arrays) image.arrays (let first = is.first in first.arrays);
+    statics_fit = (let first = is.first in first.cells);
+    cells = refl;
+  }
+
+  -- a method for which there is a body is in int mode
+  in_int_mode : (m : Method) (b : IntBody) → bodies_by_mode files image near tables is_int m ≡ Some b → is_int m ≡ true
+  in_int_mode m b e = go (is_int m) e
+    where
+      go : (int : Bool) → body_by files image near tables is_int int m ≡ Some b → int ≡ true
+      go true e = refl
+      go false e = cc
+
+  pub is_package : IsModePackage by l w a (bodies_by_mode files image near tables is_int)
+      (result_in files image near tables is_int)
+  is_package = record {
+    types = types_told;
+    arrays = classes_named;
+    int_methods = λ m b has. (let on = in_int_mode m b has in int_begun files image near tables is_int m
+        (is.int_methods m on) on);
+    supported = λ m b has at i t there row. (let on = in_int_mode m b has in is_supported files image near tables is_int
+        is.names m on (cells_of t.stack) i.op (is.named m on at i t there row));
+    few = λ m b has. is.few m (in_int_mode m b has);
+    short_methods = is.short_methods;
+    throwables = may_throw_all;
+    exceptions = exceptions;
+    answered = answered;
+    scripted = scripted;
+    starts = starts;
+  }

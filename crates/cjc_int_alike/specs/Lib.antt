@@ -1,0 +1,10 @@
+pub mod Method
+pub mod Names
+pub mod Steps
+pub mod Calls
+pub mod Callees
+pub mod Package
+pub mod ByModes
+pub mod Named
+pub mod Reached
+pub mod Converted
