@@ -7,3 +7,7 @@ pub mod Inside
 pub mod Alone
 pub mod Acts
 pub mod Emptied
+pub mod Leads
+pub mod Named
+pub mod Outside
+pub mod Within

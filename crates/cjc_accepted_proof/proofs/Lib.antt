@@ -16,6 +16,13 @@ pub mod InstructionsLaws
 pub mod BlocksLaws
 pub mod FramesLaws
 pub mod MethodsLaws
+pub mod LeastLaws
+pub mod ThisLaws
+pub mod KeepsLaws
+pub mod CatchesLaws
+pub mod StepsLaws
+pub mod EntryLaws
+pub mod BesideLaws
 -- Lemmas of lower crates, for those above.
 pub use Rattle.cjc_check_proof.proofs.ClassesLaws.Lists as CheckProofLists
 pub use Rattle.cjc_check_proof.proofs.ClassesLaws.Offsets as CheckProofOffsets

@@ -9,6 +9,10 @@ pub mod Members
 pub mod Plain
 pub mod Blocks
 pub mod Methods
+pub mod Coded
+pub mod Beside
+pub mod Served
+pub mod Checked
 -- Definitions of lower crates, for those above.
 pub mod CapWrite
 pub mod Subset

@@ -11,6 +11,7 @@ pub mod check_proof {
 pub mod accepted;
 pub mod alone;
 pub mod arrays;
+pub mod beside;
 pub mod blocks;
 pub mod carded;
 pub mod described;
@@ -24,6 +25,7 @@ pub mod laid;
 pub mod members;
 pub mod methods;
 pub mod objects;
+pub mod outside;
 pub mod pairs;
 pub mod plain;
 pub mod rows;
