@@ -21,20 +21,17 @@ use Rattle.cjc_joint_proof.specs.Imports.{AreImports, IsImport, of_package, of_o
 use Rattle.cjc_joint_proof.specs.Worlds.{AreApart, AreApartFromOutside, before}
 use Rattle.cjc_joint_proof.proofs.WorldLaws.{outside_is_found, own_is_found}
 
--- a class of an export file among those of all
-among_all : (trees : List ExportTree) (n k : ℕ) (t : ExportTree) (e : ExportClass) → slice_get trees n ≡ Some t
-    → slice_get t.classes k ≡ Some e
-    → (j : ℕ) × (slice_get (flat_map (λ (t : ExportTree). t.classes) trees) j ≡ Some e)
-among_all [] n k t e is at = cc
-among_all (u ∷ trees) zero k t e is at =
-    let same : u ≡ t = cc in (
+-- what stands in a list that is joined with others
+pub flat_at : {A B : Type 0} (f : A → List B) (xs : List A) (n k : ℕ) (x : A) (y : B) → slice_get xs n ≡ Some x
+    → slice_get (f x) k ≡ Some y → (j : ℕ) × (slice_get (flat_map f xs) j ≡ Some y)
+flat_at f [] n k x y is at = cc
+flat_at f (z ∷ xs) zero k x y is at =
+    let same : z ≡ x = cc in (
       k,
-      in_front u.classes (flat_map (λ (t : ExportTree). t.classes) trees) k e (ap (λ (v : ExportTree). slice_get
-          v.classes k) same ∙ at),
+      in_front (f z) (flat_map f xs) k y (ap (λ v. slice_get (f v) k) same ∙ at),
     )
-among_all (u ∷ trees) (suc n) k t e is at =
-    let r = among_all trees n k t e is at in
-    (length u.classes + r.0, get_behind u.classes (flat_map (λ (t : ExportTree). t.classes) trees) r.0 ∙ r.1)
+flat_at f (z ∷ xs) (suc n) k x y is at =
+    let r = flat_at f xs n k x y is at in (length (f z) + r.0, get_behind (f z) (flat_map f xs) r.0 ∙ r.1)
 
 module _ (group : List Files) (apart : AreApart group) (out : AreApartFromOutside group) (imports : AreImports group)
   where
@@ -48,7 +45,7 @@ module _ (group : List Files) (apart : AreApart group) (out : AreApartFromOutsid
       of_import t n e y at l (of_package j m lt there told) =
           let c = told n e at in earlier j lt m there e.name y (c.above y l)
       of_import t n e y at l (of_outside k there) =
-          let all = among_all (joint_exports group) k n t e there at in
+          let all = flat_at (λ (t : ExportTree). t.classes) (joint_exports group) k n t e there at in
           directly (imported all.0 e) (outside_is_found group apart out all.0 e all.1) l
 
       one_step : (x y : List ℕ) (c : Class) → class_named (all_classes p) x ≡ Some c

@@ -10,9 +10,15 @@ pub mod ExportLaws
 pub mod SoundLaws
 pub mod TowerLaws
 pub mod MemoryLaws
+pub mod RenamedLaws
 pub mod NamingLaws
 pub mod OutsideLaws
 pub mod NameLaws
 pub mod ReferLaws
 pub mod BegunLaws
 pub mod ForeignLaws
+pub mod ClassLaws
+pub mod JointAlikeLaws
+pub mod JointCodeLaws
+pub mod TogetherLaws
+pub mod PlacedLaws

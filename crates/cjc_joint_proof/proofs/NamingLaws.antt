@@ -34,8 +34,12 @@ use Rattle.cjc_token_proof.specs.NCode.Lowering.Package as consecutive
 use Rattle.cjc_token_proof.specs.NCode.Lowering.Placed.{IsLaidOut, Placed, code_of, fetched_on_card, offset_of}
 use Rattle.cjc_token_proof.specs.NCode.declared.narrow.NCatch.{NCatch}
 use Rattle.cjc_token_proof.specs.NCode.declared.narrow.NInsn.{NInsn}
+use Rattle.cjc_token_proof.specs.NCode.declared.narrow.NInsn.TheVariants as insns
 use Rattle.cjc_token_proof.specs.NCode.declared.narrow.PoolKey.{PoolKey}
-use Rattle.cjc_joint_proof.specs.Naming.{HasEach, naming_in}
+use Rattle.cjc_joint_proof.specs.Naming.{HasEach, IsKept, meant_in, naming_in}
+use Rattle.cjc_joint_proof.proofs.RenamedLaws.{code_holds}
+use Rattle.cjc_joint_proof.proofs.RenamedLaws.{fits as names_fit}
+use Rattle.cjc_joint_proof.proofs.RenamedLaws.{formed as insns_formed}
 use Rattle.cjc_joint_proof.specs.Parts.{IsPart}
 use Rattle.cjc_joint_proof.proofs.PartLaws.{infos_same}
 
@@ -127,61 +131,15 @@ module _ (group : Loaded) (q : ℕ) (n : Naming) (first : n.part ≡ 0) (h : IsP
       let there = ap (λ o. token_of (unwrap_or o (Own q 0)) (n.virtual_token m)) d.1 ∙ k.1 in
       there ∙ sym (ap (λ o. Some (unwrap_or o (Open 0))) there)
 
+  -- whatever an instruction names
+  kept : (insn : NInsn) → IsKept n (meant_in group q n) insn
+  kept insn = record { field = λ op f e. refl; cell = λ op f e. is_cell f }
+
   pub fits : {how : Use} {key : PoolKey} → Fit n how key → Fit (naming_in group q n) how key
-  fits (gets {f = f} c) = gets (is_class f.class c)
-  fits (puts {f = f} c) = puts (is_class f.class c)
-  fits (gets_static {f = f} c) = gets_static (is_cell f c)
-  fits (puts_static {f = f} c) = puts_static (is_cell f c)
-  fits (calls_virtual {m = m} c t) = calls_virtual (is_class m.class c) (is_token m c t)
-  fits (calls_super {m = m} c t) = calls_super (is_class m.class c) (is_token m c t)
-  fits (calls_special {m = m} f) = calls_special (is_fixed true m f)
-  fits (calls_static {m = m} f) = calls_static (is_fixed false m f)
-  fits (makes {c = c} e) = makes (is_class c e)
-  fits (makes_references {c = c} e) = makes_references (is_class c e)
-
-  -- ---- code
-
-  holds : (key : PoolKey) → Holds n key → Holds (naming_in group q n) key
-  holds key e = record { there = e.there }
-
-  tests : {kind : ℕ} {class : Option (List ℕ)} → Tests n kind class → Tests (naming_in group q n) kind class
-  tests (a_class {c = c} e f) = a_class (holds _ e) (is_class c f)
-  tests (numbers element) = numbers element
-  tests (references {c = c} e f) = references (holds _ e) (is_class c f)
+  fits e = names_fit n (meant_in group q n) is_class is_fixed is_token 0 (kept (insns.Named 0 _)) e
 
   pub formed : {insn : NInsn} → IsFormed n insn → IsFormed (naming_in group q n) insn
-  formed bare = bare
-  formed (push e) = push e
-  formed (local e) = local e
-  formed (increase e) = increase e
-  formed (words e) = words e
-  formed (jump e f) = jump e f
-  formed (range e) = range e
-  formed (lookup e) = lookup e
-  formed (named e k f) = named e (holds _ k) (fits f)
-  formed (by_interface {m = m} k c) = by_interface (holds _ k) (is_class m.class c)
-  formed new_array = new_array
-  formed (casts e t) = casts e (tests t)
-  formed (asks e t) = asks e (tests t)
-
-  catches : {class : Option (List ℕ)} → Catches n class → Catches (naming_in group q n) class
-  catches any = any
-  catches (one {c = c} e k f) = one e (holds _ k) (is_class c f)
-  catches (every e f) = every e f
-
-  all_lie : {count : ℕ} {cs : List NCatch} → AllLie n count cs → AllLie (naming_in group q n) count cs
-  all_lie none = none
-  all_lie (more a b c rest) = more a b (catches c) (all_lie rest)
-
-  laid_out : (p : Placed) → IsLaidOut n p → IsLaidOut (naming_in group q n) p
-  laid_out p e = record { forms = e.forms; formed = λ k insn at. formed (e.formed k insn at); spellable = e.spellable }
-
-  whole : (p : Placed) → IsWhole n p → IsWhole (naming_in group q n) p
-  whole p e = record { header = e.header; code = laid_out p e.code; handlers = all_lie e.handlers }
-
-  stand : {at : ℕ} {placed : List Placed} → AreConsecutive n at placed → AreConsecutive (naming_in group q n) at placed
-  stand consecutive.none = consecutive.none
-  stand (next e rest) = next e (stand rest)
+  formed e = insns_formed n (meant_in group q n) is_class is_fixed is_token (kept _) e
 
   pub code_stands : (part : Part) (placed : List Placed) → HoldsMethods n part placed
       → HoldsMethods (naming_in group q n) (record part { imports = h.imports }) placed
@@ -190,14 +148,8 @@ module _ (group : Loaded) (q : ℕ) (n : Naming) (first : n.part ≡ 0) (h : IsP
       let both : Some h.part ≡ Some part = sym (ap (λ parts. slice_get parts 0) h.by_itself) ∙ (ap (slice_get l.parts)
       (sym first) ∙ e.there) in
       let same : h.part ≡ part = cc in
-      record {
-        there = h.there ∙ ap (λ (p : Part). Some (record p { imports = h.imports })) same;
-        pool = e.pool;
-        bytes = e.bytes;
-        table = e.table;
-        consecutive = stand e.consecutive;
-        whole = λ j p at. whole p (e.whole j p at);
-      }
+      code_holds n (meant_in group q n) is_class is_fixed is_token h.imports part placed e (λ j p at k insn is. kept
+      insn) (h.there ∙ ap (λ (p : Part). Some (record p { imports = h.imports })) same)
 
   -- a method among those that the package holds runs there
   module _ (part : Part) (placed : List Placed) (e : HoldsMethods n part placed) (j : ℕ) (p : Placed)

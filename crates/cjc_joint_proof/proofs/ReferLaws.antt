@@ -22,7 +22,7 @@ use Rattle.cjc_joint_proof.proofs.LoadLaws.{external_at, is_part, leads_outside}
 use Rattle.cjc_joint_proof.proofs.PartLaws.{infos_same}
 
 -- the offset of an info is that of its name
-offset_is : (p : Package) (c : Class) (h : HasInfo p c) → offset_in p c.name ≡ h.offset
+pub offset_is : (p : Package) (c : Class) (h : HasInfo p c) → offset_in p c.name ≡ h.offset
 offset_is p c h = by (class_offset p c.name) (sym (ap (λ o. unwrap_or (or_else (option_map (Own 0) (class_offset p
     c.name)) o) (Own 0 0)) h.in_no_file) ∙ h.on_card)
   where
@@ -46,7 +46,7 @@ exported_info e list s k d at =
     subst (HasInfo e) {x = c} (sym own.is) info
 
 module _ (packages : List Package) (q : ℕ) (p : Package) (here : slice_get packages q ≡ Some p) where
-  of_package : slice_get (group_of packages) q ≡ Some (member_of p)
+  pub of_package : slice_get (group_of packages) q ≡ Some (member_of p)
   of_package = get_mapped member_of packages q ∙ ap (option_map member_of) here
 
   pub own_ref : (c : Class) → HasInfo p c → class_of (group_loaded (group_of packages)) q (class_ref p c.name)

@@ -2,6 +2,11 @@ pub mod Begun
 pub mod Cells
 pub mod Images
 pub mod Imports
+pub mod JointAlike
+pub mod JointCode
+pub mod JointNames
+pub mod JointPackages
+pub mod JointTogether
 pub mod Loading
 pub mod Memory
 pub mod Naming

@@ -4,6 +4,8 @@
 
 pub mod above;
 pub mod cells;
+pub mod classes;
+pub mod code;
 pub mod exports;
 pub mod images;
 pub mod loading;

@@ -1,0 +1,5 @@
+pub mod AskedLaws
+pub mod CodeLaws
+pub mod RuleLaws
+pub mod TogetherLaws
+pub mod MembersLaws

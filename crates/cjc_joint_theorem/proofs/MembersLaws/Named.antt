@@ -1,0 +1,124 @@
+-- What names in code of a package stand for in a group, where they name types and constants.
+use Rattle.std.proofs.Common.{◌≡◌, ℕ, true, List, Option, Some, None, refl, sym, ap, subst, ◌∙◌, ℤ}
+use Rattle.std.specs.Prelude.{slice_get, option_map, option_and_then, is_some, Bool, false, if◌then◌else◌}
+use Rattle.cjc_bytes.specs.AccessFlags.{is_static}
+use Rattle.cjc_bytes.specs.declared.fault.MemberId.{MemberId}
+use Rattle.cjc_code.specs.declared.insn.JOp.{JOp}
+use Rattle.cjc_script.specs.Sorts.{Shape}
+use Rattle.cjc_world.specs.Classes.{Class, all_classes, class_named}
+use Rattle.cjc_world.specs.Files.{Files}
+use Rattle.cjc_world.specs.Lookup.{find_field}
+use Rattle.cjc_world.specs.declared.found.Found.{Found}
+use Rattle.cjc_types.specs.declared.cell.Cell.{Cell}
+use Rattle.cjc_jvm_semantics.specs.Linked.{Method, ResolvedField, Constant, Static, Instance}
+use Rattle.cjc_jvm_semantics.specs.OnePackage.{ResolvedMember, constant_at, field_by, field_hit, field_named, of_class}
+use Rattle.cjc_jvm_semantics.specs.Group.{joint, joint_image, field_from, have_class}
+use Rattle.cjc_narrow_proof.specs.Runs.Names.{IsNamed}
+use Rattle.cjc_narrow_proof.specs.Runs.Names as alone
+use Rattle.cjc_narrow_proof.specs.Runs.Types.{IsThere}
+use Rattle.cjc_joint_proof.proofs.ForeignLaws.{constant_together}
+use Rattle.cjc_joint_theorem.specs.Together.Homes.{files_for, joint_world, IsThereIn}
+use Rattle.cjc_joint_theorem.specs.Together.Names.{IsFieldIn, IsNamedIn}
+use Rattle.cjc_joint_theorem.specs.Together.Names as names
+use Rattle.cjc_joint_theorem.specs.Members.{Member, files_of, images_of, homes_of, tables_of, AreMembers, IsLeft}
+use Rattle.cjc_joint_theorem.proofs.MembersLaws.Worlds.{class_there, type_there, files_at}
+
+-- ---- constants
+
+-- how a constant is found
+record IsConstantAt (p : Files) (id : MemberId) (z : ℤ) : Type 0 where
+  place : Found
+  hit : ResolvedMember
+  found : find_field (all_classes p) id.class id.name id.desc ≡ Some place
+  is_hit : field_hit (all_classes p) place ≡ Some hit
+  value : constant_at p place ≡ Some z
+
+constant_is : (p : Files) (id : MemberId) (z : ℤ) → field_named p (all_classes p) id ≡ Some (Constant z)
+    → IsConstantAt p id z
+constant_is p id z e = by (find_field (all_classes p) id.class id.name id.desc) refl e
+  where
+    no_constant : (b : Bool) (f : MemberId) → (if b then Static f else Instance f) ≡ Constant z → ⊥
+    no_constant true f e = cc
+    no_constant false f e = cc
+
+    valued : (f : Found) (hit : ResolvedMember) → find_field (all_classes p) id.class id.name id.desc ≡ Some f
+        → field_hit (all_classes p) f ≡ Some hit → (o : Option ℤ) → constant_at p f ≡ o → field_by o id hit
+        ≡ Constant z → IsConstantAt p id z
+    valued f hit found is (Some v) value e = let same : v ≡ z = cc in record {
+      place = f;
+      hit = hit;
+      found = found;
+      is_hit = is;
+      value = value ∙ ap Some same;
+    }
+    valued f hit found is None value e = absurd (no_constant (is_static hit.flags) (let owner = hit.owner
+        in of_class owner.name id) e)
+
+    met : (f : Found) → find_field (all_classes p) id.class id.name id.desc ≡ Some f → (o : Option ResolvedMember)
+        → field_hit (all_classes p) f ≡ o → option_map (field_by (constant_at p f) id) o ≡ Some (Constant z)
+        → IsConstantAt p id z
+    met f found None is e = cc
+    met f found (Some hit) is e = valued f hit found is (constant_at p f) refl (let same : field_by (constant_at p f) id
+        hit ≡ Constant z = cc in same)
+
+    by : (o : Option Found) → find_field (all_classes p) id.class id.name id.desc ≡ o
+        → option_and_then (λ f. option_map (field_by (constant_at p f) id) (field_hit (all_classes p) f)) o
+        ≡ Some (Constant z) → IsConstantAt p id z
+    by None found e = cc
+    by (Some f) found e = met f found (field_hit (all_classes p) f) refl e
+
+-- ---- instructions
+
+module _ (members : List Member) (is : AreMembers members) (q : ℕ) (p : Member) (at : slice_get members q ≡ Some p)
+  where
+    abbrev group : List Files
+    group = files_of members
+
+    abbrev w : List Class
+    w = joint_world group
+
+    pub constant_in : (id : MemberId) (z : ℤ) → field_named p.files (all_classes p.files) id ≡ Some (Constant z)
+        → IsFieldIn group p.files id (Constant z)
+    constant_in id z e =
+        let c = constant_is p.files id z e in
+        record {
+          own = e;
+          together = constant_together group p.files id c.place c.hit z c.found c.is_hit c.value;
+        }
+
+    type_in : (kind : Shape (List ℕ)) → IsThere (all_classes p.files) kind → IsThereIn group p.files kind
+    type_in kind there = record {
+      own = there;
+      together = type_there members is q p.files (files_at members q p at) kind there;
+    }
+
+    module _ (m : Method) (files_is : files_for (homes_of members) m ≡ p.files) (stack : List Cell) where
+      abbrev Alone : JOp → Type 0
+      Alone op = IsNamed p.files p.image p.near p.tables m stack op
+
+      abbrev Together : JOp → Type 0
+      Together op = IsNamedIn group (joint_image (images_of members)) (homes_of members) (tables_of members) m stack op
+
+      pub named_in : ((op : JOp) (h : Alone op) → IsLeft h → Together op) → (op : JOp) → Alone op → Together op
+      named_in rest _ (alone.names_nothing plain) = names.names_nothing plain
+      named_in rest _ (alone.is_on_array on) = names.is_on_array on
+      named_in rest _ (alone.returns is) = names.returns is
+      named_in rest _ alone.throws = names.throws
+      named_in rest _ (alone.a_field f h) = rest _ (alone.a_field f h) tt
+      named_in rest _ (alone.a_put_field f h) = rest _ (alone.a_put_field f h) tt
+      named_in rest _ (alone.a_static {put = put} f h) = rest _ (alone.a_static {put = put} f h) tt
+      named_in rest _ (alone.a_constant {named = id} z number holds found) = names.a_constant z number holds
+          (subst (λ f. IsFieldIn group f id (Constant z)) (sym files_is) (constant_in id z found))
+      named_in rest _ (alone.a_class fields made are) = rest _ (alone.a_class fields made are) tt
+      named_in rest _ (alone.an_array {class = class} c there) =
+          let d = class_there members is q p.files (files_at members q p at) class c there in
+          names.an_array d.0 (ap (λ f. have_class (Some f) class) files_is ∙ ap is_some there) d.1
+      named_in rest _ alone.booleans = names.booleans
+      named_in rest _ alone.bytes = names.bytes
+      named_in rest _ alone.shorts = names.shorts
+      named_in rest _ (alone.a_cast kind named there) = names.a_cast kind named
+          (subst (λ f. IsThereIn group f kind) (sym files_is) (type_in kind there))
+      named_in rest _ (alone.a_test kind named there) = names.a_test kind named
+          (subst (λ f. IsThereIn group f kind) (sym files_is) (type_in kind there))
+      named_in rest _ (alone.a_static_call h) = rest _ (alone.a_static_call h) tt
+      named_in rest _ (alone.a_call_on_receiver h) = rest _ (alone.a_call_on_receiver h) tt

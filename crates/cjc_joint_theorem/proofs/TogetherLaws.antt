@@ -1,0 +1,5 @@
+pub mod Whole
+pub mod Calls
+pub mod Named
+pub mod Converted
+pub mod Runs

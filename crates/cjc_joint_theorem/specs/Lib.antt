@@ -1,0 +1,4 @@
+pub mod Asked
+pub mod Rules
+pub mod Together
+pub mod Members

@@ -1,0 +1,4 @@
+pub mod Homes
+pub mod Calls
+pub mod Names
+pub mod Converted
