@@ -1,4 +1,5 @@
 -- No class of which objects are made has an abstract method for one of its tokens.
+use Rattle.cjc_theorem.proofs.ShapeProofOfFiles.{is_of_files}
 use Rattle.std.proofs.Common.{◌≡◌, ◌⊎◌, ⊎_elim, inl, inr, ℕ, zero, suc, ◌+◌, ◌-◌, ◌<◌, ◌≤◌, ◌==◌, refl, sym, ap, subst}
 use Rattle.std.proofs.Common.{◌∙◌, arith, Bool, true, false, List, [], ◌∷◌, ◌++◌, drop, length, map, nat_lt}
 use Rattle.std.specs.Prelude.{◌&&◌, ◌||◌, not, cond, Option, Some, None, if◌then◌else◌, option_and_then, option_map}
@@ -660,8 +661,8 @@ module _ (list : ListTree) (files : List (List ℕ)) (judged : Judged) (p : Pack
         let f = m.method in
         let has = here-has_slot (hidden_slots (line_of v x)) t s g in
         let source = hidden_source list files judged p is facts keeps solid x c e s has in
-        let finds = hidden_found v facts.are_supertypes facts.one_supertypes facts.rules (own_kinds list files judged p
-        is
+        let finds = hidden_found v facts.are_supertypes facts.one_supertypes facts.rules (own_kinds list judged.codes p
+        (is_of_files list files judged p is)
         facts.are_supertypes facts.one_supertypes keeps) x s source in
         let calls = facts.virtual_calls x x c c e plain e itself in
         let r = calls.package_method s finds in

@@ -4,6 +4,8 @@ use Rattle.std.proofs.Common.{◌≡◌, ℕ, zero, suc, ◌+◌, ◌<◌, ◌^�
 use Rattle.std.proofs.Common.{true, false, List, [], ◌∷◌, ◌++◌, length}
 use Rattle.std.specs.Prelude.{Option, Some, None, option_and_then, ◌||◌, ◌&&◌, not, if◌then◌else◌, is_some, slice_get}
 use Rattle.std.specs.List.{AllByRecursion, list_any}
+use Rattle.cjc_theorem.proofs.ShapeProofInsns.{op_fit}
+use Rattle.cjc_theorem.specs.ShapeProof.Written.Checked.{KeepsNames}
 use Rattle.cjc_verified_proof.specs.Bytes.AccessFlags.{is_interface}
 use Rattle.cjc_verified_proof.specs.Bytes.Descriptor.{Parts}
 use Rattle.cjc_verified_proof.specs.Bytes.Spots.{desc_of}
@@ -25,12 +27,11 @@ use Rattle.cjc_verified_proof.specs.Components.Class.{fields_in, fields_of}
 use Rattle.cjc_verified_proof.specs.Components.Descriptor.{method_in}
 use Rattle.cjc_verified_proof.specs.Components.Package.{Package, world}
 use Rattle.cjc_verified_proof.specs.Components.Types.{desc_of_key}
-use Rattle.cjc_theorem.proofs.NarrowProofInstructions.{op_fit}
 use Rattle.cjc_theorem.proofs.NarrowProofOwn.{class_by_name}
-use Rattle.cjc_accepted_proof.specs.NarrowProof.Laws.Unbroken.{IsInsnOf, IsUnbroken}
+use Rattle.cjc_accepted_proof.specs.NarrowProof.Laws.Unbroken.{IsInsnOf}
 use Rattle.cjc_verified_proof.specs.NCode.declared.narrow.PoolKey.{PoolKey}
 use Rattle.cjc_theorem.proofs.ShapeProofDescs.{member_desc}
-use Rattle.cjc_theorem.proofs.ShapeProofFiles.{field_descs, own_unbroken, read_files}
+use Rattle.cjc_theorem.proofs.ShapeProofFiles.{field_descs, own_names, read_files}
 use Rattle.cjc_theorem.proofs.ShapeProofMeant.{added_method}
 use Rattle.cjc_theorem.proofs.ShapeProofOrder.{order_filed}
 use Rattle.cjc_theorem.proofs.ShapeProofWorlds.{own_solid}
@@ -183,8 +184,8 @@ module _ (list : ListTree) (files : List (List ℕ)) (judged : Judged) (p : Pack
   abbrev w : List Class
   w = world p
 
-  abbrev u : IsUnbroken list.name p.files judged.codes (settings_of list)
-  u = own_unbroken list files judged p is
+  abbrev u : KeepsNames list.name p.files judged.codes (settings_of list)
+  u = own_names list files judged p is
 
   described_on_card : (desc : List ℕ) → IsDescOf true desc → length desc < 2 ^ 32 → is_unsupported_desc desc ≡ false
       → IsOnCard desc

@@ -1,4 +1,6 @@
 -- All entries of a converted package's pool name members of their keys' descriptors.
+use Rattle.cjc_theorem.specs.ShapeProof.Written.Checked.{KeepsNames}
+use Rattle.cjc_theorem.proofs.ShapeProofOfFiles.{is_of_files}
 use Rattle.std.proofs.Common.{◌≡◌, ℕ, refl, sym, ap, subst, ◌∙◌, Bool, true, false, not, List}
 use Rattle.std.specs.Prelude.{◌||◌, Some, option_and_then}
 use Rattle.cjc_verified_proof.specs.Bytes.AccessFlags.{is_interface, is_private, is_static}
@@ -12,7 +14,7 @@ use Rattle.cjc_verified_proof.specs.Components.Names.{names}
 use Rattle.cjc_verified_proof.specs.Components.Package.{Package, world}
 use Rattle.cjc_verified_proof.specs.ExportFile.Members.{is_unbound}
 use Rattle.cjc_verified_proof.specs.JvmSemantics.OnePackage.{ResolvedMember, is_constructor, method_hit, of_class}
-use Rattle.cjc_accepted_proof.specs.NarrowProof.Laws.Unbroken.{IsInsnOf, IsUnbroken}
+use Rattle.cjc_accepted_proof.specs.NarrowProof.Laws.Unbroken.{IsInsnOf}
 use Rattle.cjc_verified_proof.specs.NCode.Lowering.Naming.{entry_of}
 use Rattle.cjc_verified_proof.specs.NCode.declared.narrow.PoolKey.{PoolKey}
 use Rattle.cjc_verified_proof.specs.NCode.declared.narrow.PoolKey.TheVariants as keys
@@ -20,7 +22,7 @@ use Rattle.cjc_verified_proof.specs.Narrow.Rows.Resolved.{method_found, resolved
 use Rattle.cjc_verified_proof.specs.Verify.Named.{named_desc}
 use Rattle.cjc_verified_proof.specs.World.Classes.{Class, Member, class_named}
 use Rattle.cjc_verified_proof.specs.NCode.ByLabel.{OnObject, OnSuper}
-use Rattle.cjc_theorem.proofs.ShapeProofFiles.{files_sound, own_unbroken}
+use Rattle.cjc_theorem.proofs.ShapeProofFiles.{files_sound, own_names as kept_names}
 use Rattle.cjc_theorem.proofs.ShapeProofWorlds.{own_solid}
 use Rattle.cjc_theorem.specs.LowerJudge.Rules.{settings_of}
 use Rattle.cjc_theorem.specs.LowerJudge.declared.judged.Judged.{Judged}
@@ -61,8 +63,8 @@ module _ (list : ListTree) (files : List (List ℕ)) (judged : Judged) (p : Pack
   abbrev w : List Class
   w = world p
 
-  abbrev u : IsUnbroken list.name p.files judged.codes (settings_of list)
-  u = own_unbroken list files judged p is
+  abbrev u : KeepsNames list.name p.files judged.codes (settings_of list)
+  u = kept_names list files judged p is
 
   abbrev sound : IsSound list.name p.files
   sound = files_sound list files judged p is
@@ -123,9 +125,11 @@ module _ (list : ListTree) (files : List (List ℕ)) (judged : Judged) (p : Pack
       → IsInsnOf p.files judged.codes class (jop.Call 0xB7 id)
       → NamesItsDesc p (special_by class.name id (method_found w id))
   special_named class id plain of = special_key list files judged p is (NamesItsDesc p) class.name class id n
-      (λ e. fixed_named class 0xB7 id n (fixed_in_class list files judged p is class 0xB7 id n
+      (λ e. fixed_named class 0xB7 id n (fixed_in_class list judged.codes p (is_of_files list files judged p is) class
+      0xB7 id n
       (third (is_static flags) (is_private flags) (is_constructor id.name) e)) (λ import. bound e))
-      (λ e. fixed_named class 0xB7 id n (fixed_in_class list files judged p is class 0xB7 id n
+      (λ e. fixed_named class 0xB7 id n (fixed_in_class list judged.codes p (is_of_files list files judged p is) class
+      0xB7 id n
       (second (is_static flags) (is_private flags) (is_constructor id.name) e)) (λ import. not_abroad import e))
       (λ e f. (
         super_named list.name p sound facts tokens mean mean_here (of_class class.name id) (supers class id of plain e
@@ -144,8 +148,8 @@ module _ (list : ListTree) (files : List (List ℕ)) (judged : Judged) (p : Pack
           (ap is_constructor (let a = n.at in a.has_name) ∙ e)
 
       not_abroad : {A : Type 0} → (let d = n.owner in d.is_imported) ≡ true → is_private flags ≡ true → A
-      not_abroad import e = clash (let d = n.owner in d.is_imported) import (private_own list files judged p is class
-          0xB7 id n e)
+      not_abroad import e = clash (let d = n.owner in d.is_imported) import (private_own list judged.codes p
+          (is_of_files list files judged p is) class 0xB7 id n e)
 
   one_named : (key : PoolKey) → IsMet p.files judged.codes key → NamesItsDesc p key
   one_named _ (sources.of_class c e) = tt
@@ -171,7 +175,8 @@ module _ (list : ListTree) (files : List (List ℕ)) (judged : Judged) (p : Pack
       let flags = (let a = n.at in let m = a.member in m.flags) in
       let static : is_static flags ≡ true = (let g = n.fits in g.of_class) refl in
       subst (λ (m : MemberId). NamesItsDesc p (keys.StaticMethod m)) (sym n.resolved) (fixed_named class 0xB8 id n
-      (fixed_in_class list files judged p is class 0xB8 id n (ap (λ a. a || is_private flags || is_constructor id.name)
+      (fixed_in_class list judged.codes p (is_of_files list files judged p is) class 0xB8 id n (ap (λ a. a ||
+      is_private flags || is_constructor id.name)
       static)) (λ import. ap (λ a. a || is_constructor (let a = n.at in let m = a.member in m.name)) static))
 
   pub all_named : CallsHaveOpcodes judged.codes → EntriesAreNamed p

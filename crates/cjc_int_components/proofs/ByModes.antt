@@ -24,13 +24,13 @@ use Rattle.cjc_int_narrow.specs.World.declared.found.Found.{Found}
 use Rattle.cjc_check_proof.specs.LowerComponents.Components.{components_of, header, header_flags, uses_int}
 use Rattle.cjc_check_proof.specs.LowerComponents.Exports.{export}
 use Rattle.cjc_check_proof.specs.LowerComponents.Package.{LaidMethod, Package, has_applets, pool, world}
-use Rattle.cjc_check_proof.specs.LowerComponents.Written.{IsPackage, code_by}
+use Rattle.cjc_check_proof.specs.LowerComponents.Written.{IsPackage, IsWritten, code_by}
 use Rattle.cjc_int_narrow.specs.LowerIntMode.Modes.{IsModeOf}
 use Rattle.cjc_int_narrow.specs.LowerIntMode.declared.modes.Mode.{Mode}
 use Rattle.cjc_int_narrow.specs.LowerIntMode.declared.modes.Mode.TheVariants as modes
 use Rattle.cjc_int_components.specs.Components.{components_by_modes, has_int_mode, is_in_int_mode}
 use Rattle.cjc_int_components.specs.Modes.{AreModes, Tables, is_int}
-use Rattle.cjc_int_components.specs.Written.{IsPackageByModes, code_by_mode, code_in}
+use Rattle.cjc_int_components.specs.Written.{IsPackageByModes, IsWrittenByMode, code_by_mode, code_in}
 
 -- ---- one method
 
@@ -43,6 +43,16 @@ same_code files near t f (Some m) off = go (t.mode m) refl off
         ≡ code_of files near t.types m
     go modes.Short e h = ap (λ q. code_in files near t q m) e
     go modes.Int e h = absurd cc
+
+-- a method that is not in int mode is written as in a package without int mode
+pub written_outside : (files : Files) (near : List MemberId) (t : Tables) (m : LaidMethod)
+    → IsWrittenByMode files near t m → is_in_int_mode t (method_at files m.member) ≡ false
+    → IsWritten files near t.types m
+written_outside files near t m w off = record {
+  is_abstract = w.is_abstract;
+  code = w.code ∙ same_code files near t m.member (method_at files m.member) off;
+  wide = w.wide;
+}
 
 -- ---- a package
 
@@ -60,12 +70,7 @@ module _ (list : ListTree) (files : Files) (codes : List MethodCode) (t : Tables
     by_files = is.by_files;
     image = is.image;
     members = is.members;
-    methods = λ k m e. (let w = is.methods k m e in record {
-      is_abstract = w.is_abstract;
-      code = w.code ∙ same_code files (near_fields (pool p)) t m.member (method_at files m.member)
-          (one_off is.by_files k m e);
-      wide = w.wide;
-    });
+    methods = λ k m e. written_outside files (near_fields (pool p)) t m (is.methods k m e) (one_off is.by_files k m e);
   }
 
   pub as_without_int_mode : IsPackage list files codes t.types p → IsPackageByModes list files codes t p

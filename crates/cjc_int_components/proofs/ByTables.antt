@@ -49,7 +49,7 @@ module _ (files : Files) (code : MethodCode) (class : ClassTree) (method : Metho
       ap insns_of e
 
   -- what the look-ups of a package give of a method is what its class file says
-  int_code_same : (near : List MemberId) (t : Tables) → FindsItself files class method
+  pub int_code_same : (near : List MemberId) (t : Tables) → FindsItself files class method
       → int_code_of files near t (method_by class method (Some tree)) ≡ written_in_int_mode
       (resolution files near class.name) tree (body_of class method tree code.insns)
       (t.types (method_by class method (Some tree))) (t.ranges (method_by class method (Some tree)))

@@ -1,7 +1,12 @@
 pub mod PackageNames
 pub mod Places
 pub mod Lines
+pub mod Insns
+pub mod Checked
+pub mod Coded
+pub mod Sources
 pub mod Files
+pub mod OfFiles
 pub mod Subtypes
 pub mod Tokens
 pub mod Joining

@@ -1,3 +1,4 @@
 pub mod Converted
+pub mod Checked
 pub mod Joined
 pub mod LaidOut

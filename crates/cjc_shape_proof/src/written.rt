@@ -4,12 +4,14 @@
 mod fitting_laws;
 mod whole_laws;
 
-ghost use Rattle.std.specs.Prelude.{◌≡◌, ◌≢◌, ℕ, Bool, List};
+ghost use Rattle.std.specs.Prelude.{◌≡◌, ◌≢◌, ℕ, Bool, List, [], Some, slice_get};
 ghost use Rattle.cjc_check_proof.specs.WorldProof.Calls.Solid.{IsSolid};
 ghost use Rattle.cjc_narrow_proof.specs.CardSemantics.Machine.ByToken.{run as run_by_token};
 ghost use Rattle.cjc_classes.specs.Clinit.Image.{IsImage};
 ghost use Rattle.cjc_check_proof.specs.WorldProof.Initialisers.Values.{StandOnce};
 ghost use Rattle.cjc_components.specs.Bytecode.PackageCodes.{all_codes};
+ghost use Rattle.cjc_components.specs.Bytecode.declared.method_code.MethodCode.{MethodCode};
+ghost use Rattle.cjc_classes.specs.Layout.Refusals.{overtaking};
 ghost use Rattle.cjc_check_proof.specs.Code.Caught.{HandlersLie};
 ghost use Rattle.cjc_check_proof.specs.Code.Ends.{AllStayInside};
 ghost use Rattle.cjc_check_proof.specs.Code.Kinds.{AllHaveKinds};
@@ -18,7 +20,7 @@ ghost use Rattle.cjc_check_proof.specs.Made.{AllAreMade};
 ghost use Rattle.cjc_check_proof.specs.TokenProof.Components.Methods.{HasMethods};
 ghost use Rattle.cjc_check_proof.specs.TokenProof.Components.OwnNames.{HaveOwnNames};
 ghost use Rattle.cjc_components.specs.Names.{names};
-ghost use Rattle.cjc_components.specs.Package.{Package, world};
+ghost use Rattle.cjc_components.specs.Package.{LaidMethod, Package, world};
 ghost use Rattle.cjc_shape.specs.LowerJudge.declared.judged.Judged.{Judged};
 ghost use Rattle.cjc_classes.specs.List.Listed.{ListTree};
 ghost use Rattle.cjc_classes.specs.Narrow.Rows.Package.{run as run_by_label};
@@ -32,8 +34,9 @@ ghost use Rattle.cjc_vtable.specs.Kept.{Keeps};
 ghost use Rattle.cjc_world.specs.Order.{class_order};
 ghost use Rattle.cjc_check_proof.specs.TokenProof.WrittenCalls.Calls.{KeepsSubtypes, KeepsTokens, NoStaticMethods};
 ghost use Rattle.cjc_check_proof.specs.TokenProof.WrittenCalls.Standing.{AreMethods, AreReady, IsSmall, laid_code};
+ghost use Rattle.cjc_shape_proof.specs.Written.Checked.{IsChecked};
 ghost use Rattle.cjc_shape_proof.specs.Written.Converted.{IsConverted};
-ghost use Rattle.cjc_shape_proof.specs.Written.Joined.{IsJoined, NamesAreThere};
+ghost use Rattle.cjc_shape_proof.specs.Written.Joined.{IsJoined, IsRunnable, NamesAreThere};
 
 use cjc_check_proof::promises::{
     made_methods_are_consistent, packages_have_their_methods, written_methods_are_made,
@@ -138,9 +141,52 @@ pub fn converted_methods_are_ready()
     pooled_methods_are_emittable();
 }
 
-/// The components of a converted package, run by token, give the report of its narrow code, run by name, for
-/// every script and every number of instructions where narrow code is not stuck: where what is asked of its
-/// calls, operations and objects holds.
+/// The components of a package, run by token, give the report of its narrow code, run by name, for every script and
+/// every number of instructions where narrow code is not stuck: where it has what that rests on, whichever of its
+/// methods are in int mode, and what is asked of its calls, operations and objects holds.
+pub fn joined_packages_run_by_token()
+    ensures { (list : List ℕ) (p : Package) → IsRunnable list p → (call : Callee → Bool) → IsJoined p call
+        → (script : Script) (n : ℕ) → (let report = run_by_label p.files p.image (laid_code p) script n in (at : ℕ)
+        → report.outcome ≢ Stuck at) → run_by_token (loaded p) script n ≡ run_by_label p.files p.image (laid_code p)
+        script n }
+{
+    order_changes_no_search();
+    runs_agree();
+    methods_are_placed();
+    class_tables_agree();
+    memories_begin_alike();
+    tables_agree_by_parts();
+    calls_reach();
+    calls_take_objects_alike();
+    entries_are_called();
+    methods_stand();
+    sent_methods_stand();
+}
+
+/// A package that breaks no rule of its files has what that rests on, where its static image is what its initialisers
+/// make, its methods stand in their order and can be laid out, Method is short, and no handler overtakes another.
+pub fn checked_packages_are_runnable()
+    ensures { (list : ListTree) (codes : List MethodCode) (p : Package) → IsChecked list codes p
+        → (let w = p.files in IsImage p.files (all_codes w.classes) p.image) → AreMethods p → AreReady p → IsSmall p
+        → ((k : ℕ) (m : LaidMethod) → slice_get p.methods k ≡ Some m
+        → (let code = m.code in overtaking [] code.catches ≡ [])) → IsRunnable list.name p }
+{
+    fields_are_typed();
+    package_laws();
+}
+
+/// So has a converted one, where what its code names stands in the pool.
+pub fn converted_packages_are_runnable()
+    ensures { (list : ListTree) (files : List (List ℕ)) (judged : Judged) (p : Package)
+        → IsConverted list files judged p → NamesAreThere p → IsRunnable list.name p }
+{
+    checked_packages_are_runnable();
+    converted_methods_are_ready();
+    methods_can_be_laid_out();
+}
+
+/// So the components of a converted package, run by token, give the report of its narrow code, where what is asked of
+/// its calls, operations and objects holds.
 pub fn converted_packages_run_by_token()
     ensures { (list : ListTree) (files : List (List ℕ)) (judged : Judged) (p : Package)
         → IsConverted list files judged p → (call : Callee → Bool) → IsJoined p call
@@ -148,19 +194,6 @@ pub fn converted_packages_run_by_token()
         → report.outcome ≢ Stuck at) → run_by_token (loaded p) script n ≡ run_by_label p.files p.image (laid_code p)
         script n }
 {
-    converted_methods_are_ready();
-    methods_can_be_laid_out();
-    order_changes_no_search();
-    runs_agree();
-    methods_are_placed();
-    class_tables_agree();
-    fields_are_typed();
-    memories_begin_alike();
-    tables_agree_by_parts();
-    package_laws();
-    calls_reach();
-    calls_take_objects_alike();
-    entries_are_called();
-    methods_stand();
-    sent_methods_stand();
+    converted_packages_are_runnable();
+    joined_packages_run_by_token();
 }

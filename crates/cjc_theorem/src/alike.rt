@@ -26,13 +26,13 @@ ghost use Rattle.cjc_token_proof.specs.CheckRules.Consistent.{Consistent};
 ghost use Rattle.cjc_shape_proof.specs.LowerShape.Whole.Conversion.{IsPackageOf};
 
 use crate::fair_exports::fair_exports_are_sound;
-pub use call_opcodes::calls_have_opcodes;
+pub use call_opcodes::{calls_have_opcodes, calls_of_files_have_opcodes};
 pub use converted_laws::converted_components_are_consistent;
 pub use first_cells::first_cells_are_typed;
 pub use halves::{
     components_run_as_selected_code, selected_code_behaves_alike, written_code_has_fewest_bytes,
 };
-pub use insn_names::instructions_name_what_is_there;
+pub use insn_names::{instructions_name_what_is_there, instructions_of_files_name_what_is_there};
 pub use interface_calls::{
     fixed_calls_take_words, interface_calls_are_named, private_calls_are_named,
 };
@@ -41,8 +41,10 @@ pub use met_laws::{
     files_keep_promises, keys_are_known, lists_have_short_aids, members_are_there, names_are_met,
     types_are_known,
 };
-pub use named_calls::calls_are_named;
-pub use named_laws::{export_files_are_kept, fixed_calls_are_named, names_are_there};
+pub use named_calls::{calls_are_named, calls_of_files_are_named};
+pub use named_laws::{
+    export_files_are_kept, fixed_calls_are_named, names_are_there, names_of_files_are_there,
+};
 pub use virtual_calls::{super_calls_are_named, virtual_calls_are_named};
 
 /// Of a list that was read, and files that break no rule, nor does what is written for them, with export files

@@ -18,7 +18,7 @@ use Rattle.cjc_verified_proof.specs.Components.Paired.Pairs.{ArePaired}
 use Rattle.cjc_verified_proof.specs.Script.Sorts.{Signature, result_by, signature_by, signature_of, sort_of}
 use Rattle.cjc_theorem.proofs.ShapeProofDescs.{member_desc}
 use Rattle.cjc_theorem.proofs.ShapeProofInterfaces.{are_asked}
-use Rattle.cjc_theorem.proofs.ShapeProofWorlds.{none_static}
+use Rattle.cjc_shape_proof.proofs.WrittenLaws.Checked.{none_static}
 use Rattle.cjc_theorem.specs.Subset.Checks.{check_breaks}
 use Rattle.cjc_verified_proof.specs.Tokens.Members.{is_initialiser}
 use Rattle.cjc_verified_proof.proofs.TokenProofClean.{own_name}

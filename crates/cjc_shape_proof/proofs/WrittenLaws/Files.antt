@@ -1,53 +1,52 @@
 -- The files of a converted package are read ones that break no rule of classes and names.
-use Rattle.std.proofs.Common.{◌≡◌, ℕ, zero, suc, ◌<◌, ◌≤◌, refl, sym, ap, subst, ◌∙◌, arith}
-use Rattle.std.proofs.Common.{List, [], ◌∷◌, length}
-use Rattle.std.specs.Prelude.{Some, slice_get}
-use Rattle.std.specs.List.{AllByRecursion}
+use Rattle.std.proofs.Common.{◌≡◌, ℕ, zero, suc, ◌<◌, ◌≤◌, refl, sym, ap, subst, ◌∙◌, List, [], ◌∷◌, length}
+use Rattle.std.specs.Prelude.{All, Some, slice_get}
+use Rattle.cjc_bytes.specs.Breaks.{Break}
 use Rattle.cjc_bytes.specs.Descriptor.{IsClassName}
 use Rattle.cjc_bytes.specs.Format.{FileSpells}
 use Rattle.cjc_bytes.specs.declared.settings.FileLine.{FileLine}
-use Rattle.cjc_bytes.proofs.Gets.{all_at}
-use Rattle.cjc_world.proofs.ClassFileFitting.{spelt_fits}
 use Rattle.cjc_world.specs.ClassFile.ClassFile.{class_file}
-use Rattle.cjc_world.specs.ClassFile.Fits as fits
 use Rattle.cjc_world.specs.ClassFile.declared.tree.ClassTree.{ClassTree}
 use Rattle.cjc_classes.specs.Clinit.Image.{IsImage}
+use Rattle.cjc_classes.specs.Clinit.Rules.{BreaksImage}
 use Rattle.cjc_check_proof.specs.WorldProof.Initialisers.Values.{StandOnce}
 use Rattle.cjc_components.specs.Bytecode.PackageCodes.{all_codes}
 use Rattle.cjc_components.specs.Package.{Package}
-use Rattle.cjc_shape.specs.LowerJudge.Rules.{settings_of}
+use Rattle.cjc_shape.specs.LowerJudge.Rules.{has_applets, settings_of}
 use Rattle.cjc_shape.specs.LowerJudge.Spelt.{FileTree, classes_of, exports_of}
 use Rattle.cjc_shape.specs.LowerJudge.Spelt as spelt_files
 use Rattle.cjc_shape.specs.LowerJudge.Trees.{AllSpelt}
 use Rattle.cjc_shape.specs.LowerJudge.declared.judged.Judged.{Judged}
+use Rattle.cjc_shape.specs.LowerMethods.Ready.{AreReady}
 use Rattle.cjc_shape.proofs.JudgedLaws.Selected.{judged_writable}
 use Rattle.cjc_shape.specs.Judged.Tested.{AreFiles, IsTested}
 use Rattle.cjc_classes.specs.List.Listed.{ListTree}
 use Rattle.cjc_narrow_proof.specs.Laws.Unbroken.{AreSpelt, IsUnbroken}
-use Rattle.cjc_shape.proofs.PreparedLaws.Sound.{is_tested, is_unbroken}
-use Rattle.cjc_narrow_proof.proofs.BytecodeMembers.{read_class}
-use Rattle.cjc_components.specs.Bytecode.ReadLaws.Members.{IsReadClass}
+use Rattle.cjc_narrow_proof.specs.Selected.Keeps.{IsSpelt}
+use Rattle.cjc_shape.proofs.PreparedLaws.Sound.{are_ready, has_tokens, is_tested, is_unbroken, no_image_break}
 use Rattle.cjc_check_proof.specs.WorldProof.Files.{AreReadFiles}
 use Rattle.cjc_classes.specs.Subset.Checks.{check_breaks}
-use Rattle.cjc_narrow_proof.proofs.TablesLaws.Spelt.{class_read}
+use Rattle.cjc_classes.specs.Types.Tables.{IsOfPackage}
 use Rattle.cjc_check_proof.specs.TokenProof.Tables.Sound.{AreFieldDescs, IsSound, export_count}
-use Rattle.cjc_vtable.specs.Kept.{AreRead, BreaksNone, IsKept}
+use Rattle.cjc_tokens.specs.Rules.{token_breaks}
+use Rattle.cjc_vtable.specs.Kept.{BreaksNone, IsKept}
 use Rattle.cjc_shape.proofs.WholeLaws.Drafts.{same_spelt}
 use Rattle.cjc_shape.proofs.WholeLaws.Ints.{package_free}
 use Rattle.cjc_shape.proofs.WholeLaws.Second.{package_is_draft}
 use Rattle.cjc_world.specs.Files.{Files}
 use Rattle.cjc_world.specs.Rules.{breaks}
 use Rattle.cjc_check_proof.specs.TokenProof.WrittenCalls.Standing.{AreMethods}
+use Rattle.cjc_shape_proof.specs.Written.Checked.{IsChecked, KeepsNames}
 use Rattle.cjc_shape_proof.specs.Written.Converted.{IsConverted}
+use Rattle.cjc_shape_proof.proofs.WrittenLaws.Checked as checked
 use Rattle.cjc_shape_proof.proofs.WrittenLaws.PackageNames.{package_named}
-use Rattle.cjc_shape_proof.proofs.WrittenLaws.FittingLaws.Initialisers.{stand_once}
 use Rattle.cjc_shape_proof.proofs.WrittenLaws.Lines.{exports_few}
 
 -- ---- the files
 
 -- bytes that spell a class
 ClassBytes : ClassTree → Type 0
-ClassBytes c = (bytes : List ℕ) × AllByRecursion (λ b. b < 256) bytes × FileSpells class_file c bytes
+ClassBytes c = (bytes : List ℕ) × IsSpelt c bytes
 
 spelt_at : (lines : List FileLine) (files : List (List ℕ)) (trees : List FileTree) → AllSpelt lines files trees
     → AreFiles files → (n : ℕ) (c : ClassTree) → slice_get (classes_of trees) n ≡ Some c → ClassBytes c
@@ -60,7 +59,14 @@ spelt_at [] files trees h bytes n c e = let none : trees ≡ [] = h.1
 spelt_at (line ∷ lines) [] trees h bytes n c e = absurd h
 spelt_at (line ∷ lines) (b ∷ files) [] h bytes n c e = absurd h
 spelt_at (line ∷ lines) (b ∷ files) (spelt_files.of_class tree ∷ trees) h bytes zero c e =
-    let same : tree ≡ c = cc in (b, (bytes 0 b refl).0, subst (λ t. FileSpells class_file t b) same h.0.1)
+    let same : tree ≡ c = cc in (
+      b,
+      record {
+        in_bytes = (bytes 0 b refl).0;
+        short = (bytes 0 b refl).1;
+        spelt = subst (λ t. FileSpells class_file t b) same h.0.1;
+      },
+    )
 spelt_at (line ∷ lines) (b ∷ files) (spelt_files.of_class tree ∷ trees) h bytes (suc n) c e =
     spelt_at lines files trees h.1 (λ k x f. bytes (suc k) x f) n c e
 spelt_at (line ∷ lines) (b ∷ files) (spelt_files.of_export tree ∷ trees) h bytes n c e =
@@ -96,53 +102,57 @@ module _ (list : ListTree) (files : List (List ℕ)) (judged : Judged) (p : Pack
   same_lines : (let w = p.files in w.lines) ≡ list.lines
   same_lines = ap (λ (w : Files). w.lines) (same_files ∙ is.sound.judged_by.world)
 
-  pub package_spelt : IsClassName (let w = p.files in w.package_name)
+  package_spelt : IsClassName (let w = p.files in w.package_name)
   package_spelt = subst IsClassName (sym (ap (λ (w : Files). w.package_name) (same_files ∙ is.sound.judged_by.world)))
       (package_named list is.read)
 
-  -- the files are read ones
-  pub read_files : AreReadFiles p.files
+  ready : AreReady p.files judged.codes judged.types
+  ready = subst (λ (w : Files). AreReady w judged.codes judged.types) (sym same_files)
+      (are_ready list files judged is.sound)
+
+  -- it breaks no rule of its files
+  pub is_checked : IsChecked list judged.codes p
   unfolding ClassBytes
-  read_files = record {
+  is_checked = record {
+    package_name = package_spelt;
     classes = λ n c e. spelt_at list.lines files trees is.sound.judged_by.read.spelt is.sound.are_files n c
         (sym (ap (λ cs. slice_get cs n) same_classes) ∙ e);
-    exports = λ n t e. judged_writable list files judged tested n t (sym (ap (λ (w : Files). slice_get w.exports n)
+    written = λ n t e. judged_writable list files judged tested n t (sym (ap (λ (w : Files). slice_get w.exports n)
         same_files) ∙ e);
-  }
-
-  pub are_read : AreRead p.files
-  are_read = record {
-    package_name = (let h = class_read (let w = p.files in w.package_name) package_spelt in h.no_array);
-    classes = λ n c e. let r = read_files.classes n c e in (r.0, r.2);
-    exports = read_files.exports;
-  }
-
-  pub are_spelt : AreSpelt p.files
-  are_spelt = record { package_name = package_spelt; exports = is.exports.names }
-
-  pub files_sound : IsSound list.name p.files
-  files_sound = record {
-    classes = own_unbroken.listed;
-    exports =
+    listed = own_unbroken.listed;
+    listed_exports =
         let few = exports_few list.lines files trees is.sound.judged_by.read.spelt in
         let lines = same_lines in
         subst (λ ls. length (let w = p.files in w.exports) ≤ export_count ls) (sym lines)
         (subst (λ ts. length ts ≤ export_count list.lines) (sym same_exports) few);
-    read = are_read;
-    names = λ k c e. let h = class_read c.name (is.exports.names k c e) in h.no_array;
+    codes_are = ready.codes_are;
+    of_package = subst (λ (w : Files). All (IsOfPackage w) judged.codes) (sym same_files) is.sound.judged_by.of_package;
+    decoded = ready.decoded;
     unbroken = own_unbroken.world;
+    names = own_unbroken.names;
+    checks = own_unbroken.checks;
+    initialisers = subst (λ (w : Files). (b : Break) → BreaksImage w judged.codes b → ⊥) (sym same_files)
+        (no_image_break list files judged is.sound);
+    tokens = ap (token_breaks (has_applets list)) same_files ∙ has_tokens list files judged is.sound;
+    exports = is.exports;
+    plain = is.plain;
+    agree = is.agree;
   }
 
-  -- ---- fields
+  abbrev pub own_names : KeepsNames list.name p.files judged.codes (settings_of list)
+  own_names = checked.own_names list judged.codes p is_checked
+
+  pub read_files : AreReadFiles p.files
+  read_files = checked.read_files list judged.codes p is_checked
+
+  pub are_spelt : AreSpelt p.files
+  are_spelt = checked.are_spelt list judged.codes p is_checked
+
+  pub files_sound : IsSound list.name p.files
+  files_sound = checked.files_sound list judged.codes p is_checked
 
   pub field_descs : AreFieldDescs p.files
-  field_descs n k c f e g =
-      let r = read_files.classes n c e in
-      let one : IsReadClass c = read_class c r.0 r.1 r.2 in
-      let desc = one.fields k f g in
-      let few = spelt_fits c r.0 r.1 r.2 in
-      let short = (all_at fits.FieldFits c.fields k f few.fields g).desc in
-      record { parts = desc.0; is_desc = desc.1; is_field = desc.2; short = omega (arith, short) }
+  field_descs = checked.field_descs list judged.codes p is_checked
 
   -- ---- the image
 
@@ -150,7 +160,7 @@ module _ (list : ListTree) (files : List (List ℕ)) (judged : Judged) (p : Pack
   own_image = is.is_package.is_package.image
 
   pub own_once : StandOnce p.files (all_codes (let w = p.files in w.classes))
-  own_once = stand_once p.files list.name own_unbroken.listed own_unbroken.world
+  own_once = checked.own_once list judged.codes p is_checked
 
   pub own_methods : AreMethods p
   own_methods = record {
@@ -162,8 +172,4 @@ module _ (list : ListTree) (files : List (List ℕ)) (judged : Judged) (p : Pack
 
   pub is_kept : ((l : List ℕ) (fs : Files) → breaks l fs ≡ [] → check_breaks l fs judged.codes (settings_of list) ≡ []
       → BreaksNone l fs judged.codes (settings_of list)) → IsKept list.name p.files judged.codes (settings_of list)
-  is_kept unbroken = record {
-    unbroken = unbroken list.name p.files own_unbroken.world own_unbroken.checks;
-    read = are_read;
-    agree = is.agree;
-  }
+  is_kept = checked.is_kept list judged.codes p is_checked

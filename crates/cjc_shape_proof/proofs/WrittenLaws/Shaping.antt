@@ -1,7 +1,7 @@
 -- A package that is laid out has layouts of its methods and a pool, as those ask who emit them.
 use Rattle.std.proofs.Common.{◌≡◌, ℕ, zero, suc, ◌+◌, ◌<◌, ◌≤◌, refl, sym, ap, subst, ◌∙◌, arith, Bool, true, false}
 use Rattle.std.proofs.Common.{List, [], ◌∷◌, ◌++◌, length, map}
-use Rattle.std.specs.Prelude.{◌||◌, All, Option, Some, None, option_and_then, option_map, position, slice_get}
+use Rattle.std.specs.Prelude.{◌||◌, Option, Some, None, option_and_then, option_map, position, slice_get}
 use Rattle.std.specs.Prelude.{slice_index, if◌then◌else◌}
 use Rattle.std.specs.List.{list_any}
 use Rattle.std.proofs.lemmas.Bool.{ltb-false}
@@ -22,6 +22,7 @@ use Rattle.cjc_classes.specs.Layout.Legal.{IsLeast}
 use Rattle.cjc_classes.specs.Layout.Sizes.{bytes_before, code_size}
 use Rattle.cjc_classes.specs.Layout.declared.layout.Layout.{Layout}
 use Rattle.cjc_shape.specs.LowerMethods.Ready.{IsOwn}
+use Rattle.cjc_classes.specs.ClassOrder.Classes.Numbers.{class_count}
 use Rattle.cjc_classes.specs.List.Listed.{ListTree}
 use Rattle.cjc_narrow_proof.specs.NCode.PoolOrder.{pool_order, same_key, same_member}
 use Rattle.cjc_narrow_proof.specs.NCode.declared.narrow.NInsn.{NInsn}
@@ -36,7 +37,7 @@ use Rattle.cjc_shape.proofs.WholeLaws.Drafts.{same_spelt}
 use Rattle.cjc_shape.proofs.WholeLaws.Ordered.{all_own}
 use Rattle.cjc_shape.specs.Prepared.{IsSound}
 use Rattle.cjc_shape.specs.Whole.Conversion.{IsPackageOf}
-use Rattle.cjc_world.specs.Classes.{Class, all_classes, class_at}
+use Rattle.cjc_world.specs.Classes.{Class, class_at}
 use Rattle.cjc_world.specs.Files.{Files}
 use Rattle.cjc_world.specs.Order.{method_order}
 use Rattle.cjc_components.proofs.ListWholes.{or_none}
@@ -166,35 +167,48 @@ layout_wide m wide = refl
 
 -- ---- what is broken of no method
 
+-- a method is a member of a class of the package
+pub members_own : (p : Package) → map (λ m. m.member) p.methods ≡ method_order (world p)
+    → (let w = p.files in length w.classes ≤ class_count w.lines)
+    → (k : ℕ) (m : LaidMethod) → slice_get p.methods k ≡ Some m → IsOwn p.files m.member
+members_own p members listed k m e =
+    let there : slice_get (method_order (world p)) k ≡ Some m.member =
+    ap (λ fs. slice_get fs k) (sym members) ∙ slice_get-map (λ (x : LaidMethod). x.member) p.methods k
+    ∙ ap (option_map (λ (x : LaidMethod). x.member)) e in
+    item_has (IsOwn p.files) (method_order (world p)) k m.member (all_own p.files listed) there
+
+module _ (p : Package) (own : (k : ℕ) (m : LaidMethod) → slice_get p.methods k ≡ Some m → IsOwn p.files m.member) where
+  pub none_broken : (B : Class → LaidMethod → List Break) → of_methods p B ≡ [] → (k : ℕ) (m : LaidMethod)
+      → (e : slice_get p.methods k ≡ Some m) → B (own k m e).class m ≡ []
+  none_broken B none k m e =
+      let f = m.member in
+      let here : in_class B m (class_at (world p) f.imported f.class) ≡ [] =
+      none_each (λ (x : LaidMethod). let g = x.member in in_class B x (class_at (world p) g.imported g.class)) p.methods
+      k m none e in
+      sym (ap (in_class B m) (own k m e).is_class) ∙ here
+
+  -- 415
+  pub none_long : form_breaks p ≡ [] → (k : ℕ) (m : LaidMethod) → slice_get p.methods k ≡ Some m
+      → (let code = m.code in code.widest ≤ 32767)
+  none_long forms k m e =
+      let none = none_broken (layout_breaks p) (none_left (of_methods p (layout_breaks p)) _ forms) k m e in
+      ltb-false 32767 (let code = m.code in code.widest) (none_at (is_too_long m) _ 415 (none_right _ _ none))
+
 module _ (list : ListTree) (files : List (List ℕ)) (judged : Judged) (is : IsSound list files judged) (p : Package)
     (whole : IsPackageOf list files p) where
   same_world : p.files ≡ judged.world
   same_world = same_spelt list files judged is p.files whole.rows whole.spelt
 
   pub own_at : (k : ℕ) (m : LaidMethod) → slice_get p.methods k ≡ Some m → IsOwn p.files m.member
-  own_at k m e =
-      let there : slice_get (method_order (world p)) k ≡ Some m.member =
-      ap (λ fs. slice_get fs k) (sym whole.is_package.members)
-      ∙ slice_get-map (λ (x : LaidMethod). x.member) p.methods k ∙ ap (option_map (λ (x : LaidMethod). x.member)) e in
-      let owned : All (IsOwn p.files) (method_order (world p)) =
-      subst (λ (w : Files). All (IsOwn w) (method_order (all_classes w))) (sym same_world)
-      (all_own judged.world (listed list files judged is)) in
-      item_has (IsOwn p.files) (method_order (world p)) k m.member owned there
+  own_at = members_own p whole.is_package.members (subst (λ (w : Files). length w.classes ≤ class_count w.lines)
+      (sym same_world) (listed list files judged is))
 
   -- nothing of a method
   pub none_of_method : (B : Class → LaidMethod → List Break) → of_methods p B ≡ [] → (k : ℕ) (m : LaidMethod)
       → (e : slice_get p.methods k ≡ Some m) → B (own_at k m e).class m ≡ []
-  none_of_method B none k m e =
-      let f = m.member in
-      let own = own_at k m e in
-      let here : in_class B m (class_at (world p) f.imported f.class) ≡ [] =
-      none_each (λ (x : LaidMethod). let g = x.member in in_class B x (class_at (world p) g.imported g.class)) p.methods
-      k m none e in
-      sym (ap (in_class B m) own.is_class) ∙ here
+  none_of_method = none_broken p own_at
 
   -- 415
   pub short_at : form_breaks p ≡ [] → (k : ℕ) (m : LaidMethod) → slice_get p.methods k ≡ Some m
       → (let code = m.code in code.widest ≤ 32767)
-  short_at forms k m e =
-      let none = none_of_method (layout_breaks p) (none_left (of_methods p (layout_breaks p)) _ forms) k m e in
-      ltb-false 32767 (let code = m.code in code.widest) (none_at (is_too_long m) _ 415 (none_right _ _ none))
+  short_at = none_long p own_at

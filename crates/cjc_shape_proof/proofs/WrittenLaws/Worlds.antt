@@ -1,118 +1,45 @@
 -- The classes of a converted package have code for what they declare, and its interfaces have no static method but
 -- their initialisers.
-use Rattle.std.proofs.Common.{◌≡◌, ℕ, refl, sym, ap, ◌∙◌, Bool, true, false, List, []}
-use Rattle.std.specs.Prelude.{◌&&◌, ◌||◌, not, Some, is_some, slice_get}
-use Rattle.cjc_bytes.specs.AccessFlags.{is_abstract, is_interface, is_static}
-use Rattle.cjc_bytes.specs.declared.settings.Settings.{Settings}
-use Rattle.cjc_bytes.proofs.Bools.{last_of}
-use Rattle.cjc_classes.specs.JvmSemantics.OnePackage.{is_constructor, is_initialiser}
-use Rattle.cjc_check_proof.proofs.WorldProofOwn.{mapped_at}
-use Rattle.cjc_check_proof.specs.WorldProof.Calls.Solid.{IsOwn, IsSolid}
-use Rattle.cjc_world.specs.ClassFile.declared.tree.ClassTree.{ClassTree}
-use Rattle.cjc_world.specs.ClassFile.declared.tree.MethodTree.{MethodTree}
-use Rattle.cjc_components.specs.Bytecode.declared.method_code.MethodCode.{MethodCode}
-use Rattle.cjc_components.specs.Package.{Package, world}
-use Rattle.cjc_shape.specs.LowerJudge.Rules.{has_applets, settings_of}
-use Rattle.cjc_shape.specs.LowerJudge.declared.judged.Judged.{Judged}
-use Rattle.cjc_classes.specs.List.Listed.{ListTree}
-use Rattle.cjc_narrow_proof.proofs.LawsLaws.ClassNames.{each_name}
-use Rattle.cjc_shape.proofs.PreparedLaws.Sound.{has_tokens}
-use Rattle.cjc_narrow_proof.specs.Script.Sorts.{Shape, shape_name}
-use Rattle.cjc_check_proof.proofs.WorldProofRules.{method_kept}
-use Rattle.cjc_check_proof.proofs.WorldProofSolid.{solid as solid_of}
-use Rattle.cjc_check_proof.specs.WorldProof.Files.{IsClean}
-use Rattle.cjc_classes.specs.Subset.Checks.{check_breaks}
-use Rattle.cjc_classes.specs.Subset.Flags.{is_unfit_method, is_unfit_method_kind}
-use Rattle.cjc_narrow_proof.proofs.TablesLaws.Spelt.{class_read}
-use Rattle.cjc_world.specs.Upwards.{IsOrdered}
-use Rattle.cjc_world.specs.Classes.{Class, Member, all_classes, class_named, method_of_class}
-use Rattle.cjc_world.specs.Files.{Files}
-use Rattle.cjc_world.specs.Lookup.{object}
-use Rattle.cjc_world.specs.Subtype.{is_subtype, starts}
-use Rattle.cjc_tokens.specs.Rules.{token_breaks}
+use Rattle.std.specs.Prelude.{◌≡◌, ℕ, List, true, false, Some}
 use Rattle.cjc_check_proof.specs.TokenProof.WrittenCalls.Calls.{KeepsSubtypes, KeepsTokens, NoStaticMethods}
 use Rattle.cjc_check_proof.specs.TokenProof.WrittenCalls.Calls.{Receives}
+use Rattle.cjc_check_proof.specs.WorldProof.Calls.Solid.{IsSolid}
+use Rattle.cjc_classes.specs.List.Listed.{ListTree}
+use Rattle.cjc_components.specs.Package.{Package, world}
+use Rattle.cjc_narrow_proof.specs.Script.Sorts.{Shape, shape_name}
+use Rattle.cjc_shape.specs.LowerJudge.declared.judged.Judged.{Judged}
+use Rattle.cjc_world.specs.Classes.{Class, class_named}
+use Rattle.cjc_world.specs.Lookup.{object}
+use Rattle.cjc_world.specs.Subtype.{is_subtype, starts}
+use Rattle.cjc_world.specs.Upwards.{IsOrdered}
+use Rattle.cjc_shape_proof.specs.Written.Checked.{IsChecked}
 use Rattle.cjc_shape_proof.specs.Written.Converted.{IsConverted}
-use Rattle.cjc_shape_proof.proofs.WrittenLaws.Files.{are_spelt, own_unbroken, read_files, same_files}
-use Rattle.cjc_shape_proof.proofs.WrittenLaws.Subtypes.{keeps_subtypes, receivers_are_objects}
-use Rattle.cjc_shape_proof.proofs.WrittenLaws.Tokens.{keeps_tokens}
-
-both_then : (a b c : Bool) → a ≡ true → b ≡ true → (a && b && not c) ≡ false → c ≡ true
-both_then true true true e f g = refl
-both_then true true false e f g = cc
-both_then true false c e f g = cc
-both_then false b c e f g = cc
-
-module _ (files : Files) (solid : IsSolid files) (list : List ℕ) (codes : List MethodCode) (settings : Settings)
-    (unbroken : check_breaks list files codes settings ≡ []) where
-  static_initialises : (n k : ℕ) (t : ClassTree) (m : MethodTree) → slice_get files.classes n ≡ Some t
-      → slice_get t.methods k ≡ Some m → is_interface t.flags ≡ true → is_static m.flags ≡ true → is_initialiser m.name
-      ≡ true
-  static_initialises n k t m e f interface static = by (is_abstract m.flags) refl
-    where
-      own : IsOwn files t m
-      own = record { number = n; place = k; is_class = e; is_method = f }
-
-      clash : {A : Type 0} (b : Bool) → b ≡ true → b ≡ false → A
-      clash true e f = absurd (cc)
-      clash false e f = absurd (cc)
-
-      coded : (b : Bool) → b ≡ true → is_unfit_method (is_interface t.flags) m.flags m.name b ≡ false
-          → is_initialiser m.name ≡ true
-      coded b g fit = both_then (is_interface t.flags) b (is_initialiser m.name) interface g
-          (last_of (is_unfit_method_kind m.flags) (is_abstract m.flags && (is_constructor m.name
-          || is_initialiser m.name)) (is_initialiser m.name && not (is_static m.flags)) (is_interface t.flags && b
-          && not (is_initialiser m.name)) fit)
-
-      by : (b : Bool) → is_abstract m.flags ≡ b → is_initialiser m.name ≡ true
-      by true g = clash (is_static m.flags) static (solid.bound t m own g).0
-      by false g = let tree = solid.coded t m own g in coded (is_some m.code) (ap is_some tree.1)
-          (method_kept list files codes settings unbroken n t e k m f).2
-
-  pub none_static : NoStaticMethods (all_classes files)
-  none_static x c e own interface k m f static =
-      let t = solid.own x c e own in
-      let at = mapped_at method_of_class (let u = t.0 in u.methods) k m (ap (λ (v : Class). slice_get v.methods k)
-      (sym t.2) ∙ f) in
-      ap (λ (v : Member). is_initialiser v.name) at.2
-      ∙ static_initialises c.number k t.0 at.0 t.1 at.1 (ap (λ (v : Class). is_interface v.flags) (sym t.2)
-      ∙ interface) (ap (λ (v : Member). is_static v.flags) (sym at.2) ∙ static)
+use Rattle.cjc_shape_proof.proofs.WrittenLaws.Checked as checked
+use Rattle.cjc_shape_proof.proofs.WrittenLaws.Files.{is_checked}
 
 module _ (list : ListTree) (files : List (List ℕ)) (judged : Judged) (p : Package) (is : IsConverted list files judged
     p) where
-  clean : IsClean list.name p.files judged.codes (settings_of list)
-  clean = let u = own_unbroken list files judged p is in record {
-    world = u.world;
-    checks = u.checks;
-    read = read_files list files judged p is;
-    sound = is.exports;
-  }
+  abbrev its : IsChecked list judged.codes p
+  its = is_checked list files judged p is
 
   pub plain_names : (x : List ℕ) (c : Class) → class_named (world p) x ≡ Some c → starts 91 x ≡ false
-  plain_names x c e =
-      let u = own_unbroken list files judged p is in
-      let h = class_read x (each_name p.files list.name u.listed u.world (are_spelt list files judged p is) x c e)
-      in h.no_array
+  plain_names = checked.plain_names list judged.codes p its
 
-  pub own_solid : IsSolid p.files
-  own_solid = solid_of list.name p.files judged.codes (settings_of list) clean plain_names
+  abbrev pub own_solid : IsSolid p.files
+  own_solid = checked.own_solid list judged.codes p its
 
   pub own_ordered : IsOrdered (world p)
-  own_ordered = let s = own_solid in s.ordered
+  own_ordered = checked.own_ordered list judged.codes p its
 
   pub no_static_methods : NoStaticMethods (world p)
-  no_static_methods = let u = own_unbroken list files judged p is in none_static p.files own_solid list.name
-      judged.codes (settings_of list) u.checks
+  no_static_methods = checked.no_static_methods list judged.codes p its
 
   pub own_subtypes : KeepsSubtypes (world p)
-  own_subtypes = keeps_subtypes (world p) own_ordered plain_names
+  own_subtypes = checked.own_subtypes list judged.codes p its
 
   pub own_objects : (kind : Shape (List ℕ)) → Receives (world p) (Some kind)
       → is_subtype (world p) (shape_name kind) object ≡ true
-  own_objects = receivers_are_objects (world p) own_ordered plain_names
+  own_objects = checked.own_objects list judged.codes p its
 
   pub own_tokens : KeepsTokens (world p)
-  own_tokens =
-      let none : token_breaks (has_applets list) p.files ≡ [] = ap (token_breaks (has_applets list))
-      (same_files list files judged p is) ∙ has_tokens list files judged is.sound in
-      keeps_tokens p.files (has_applets list) none (let r = read_files list files judged p is in r.exports) own_ordered
+  own_tokens = checked.own_tokens list judged.codes p its

@@ -1,6 +1,6 @@
 -- What joins a package's narrow code to its components: the code of its methods where they stand, and what is asked
 -- of calls, operations and objects.
-use Rattle.std.specs.Prelude.{◌≡◌, ℕ, List, Bool, true, Some, slice_get}
+use Rattle.std.specs.Prelude.{◌≡◌, ℕ, List, [], Bool, true, Some, slice_get}
 use Rattle.cjc_bytes.specs.declared.fault.MemberId.{MemberId}
 use Rattle.cjc_narrow_proof.specs.CardSemantics.Bytecode.Alike.{KnownThing, start_as}
 use Rattle.cjc_narrow_proof.specs.CardSemantics.Bytecode.Renaming.{KnownOperation, option_as, shape_as}
@@ -20,12 +20,21 @@ use Rattle.cjc_narrow_proof.specs.NCode.ByLabel.{Callee, operation}
 use Rattle.cjc_narrow_proof.specs.NCode.declared.narrow.NCatch.{NCatch}
 use Rattle.cjc_narrow_proof.specs.NCode.declared.narrow.NInsn.{NInsn}
 use Rattle.cjc_narrow_proof.specs.NCode.declared.narrow.NMethod.{NMethod}
-use Rattle.cjc_narrow_proof.specs.Script.Sorts.{Shape}
+use Rattle.cjc_narrow_proof.specs.Script.Sorts.{Shape, shape_name}
 use Rattle.cjc_narrow_proof.specs.Selected.Names.{NamesFit}
 use Rattle.cjc_check_proof.specs.TokenProof.Tables.Known.{known_names, statics_of}
 use Rattle.cjc_check_proof.specs.TokenProof.Tables.Loading.{naming}
-use Rattle.cjc_check_proof.specs.TokenProof.WrittenCalls.Calls.{ExportsKeep, IsNamed, Receives}
-use Rattle.cjc_check_proof.specs.TokenProof.WrittenCalls.Standing.{place}
+use Rattle.cjc_check_proof.specs.TokenProof.Tables.Sound.{AreTyped, IsSound}
+use Rattle.cjc_check_proof.specs.TokenProof.WrittenCalls.Calls.{ExportsKeep, IsNamed, KeepsSubtypes, KeepsTokens}
+use Rattle.cjc_check_proof.specs.TokenProof.WrittenCalls.Calls.{NoStaticMethods, Receives}
+use Rattle.cjc_check_proof.specs.TokenProof.WrittenCalls.Standing.{AreMethods, AreReady, IsSmall, place}
+use Rattle.cjc_check_proof.specs.WorldProof.Initialisers.Values.{StandOnce}
+use Rattle.cjc_classes.specs.Clinit.Image.{IsImage}
+use Rattle.cjc_classes.specs.Layout.Refusals.{overtaking}
+use Rattle.cjc_components.specs.Bytecode.PackageCodes.{all_codes}
+use Rattle.cjc_vtable.specs.Kept.{Keeps}
+use Rattle.cjc_world.specs.Lookup.{object}
+use Rattle.cjc_world.specs.Subtype.{is_subtype}
 
 -- What the instructions and the handlers of its methods name stands in its pool, and means what they use.
 pub record NamesAreThere (p : Package) : Type 0 where
@@ -64,3 +73,26 @@ module _ (p : Package) (call : Callee → Bool) where
         → (let n = naming p in let methods = reaching.placed_methods p.files (place p)
         in Calls.sent n.loaded (shape_as n.class kind) id ≡ option_as (start_as (code_of n) (offset_of n))
         (methods.sent kind id))
+
+-- What a package has whose components run by token as its narrow code runs by name, where what is asked of its calls,
+-- operations and objects holds: read files that break no rule of classes and names, a static image that its
+-- initialisers make, classes that keep what dispatch rests on, and its methods in their order, each of which can be
+-- laid out.
+pub record IsRunnable (list : List ℕ) (p : Package) : Type 0 where
+  pub sound : IsSound list p.files
+  pub typed : AreTyped p.files
+  pub image : (let w = p.files in IsImage p.files (all_codes w.classes) p.image)
+  pub once : (let w = p.files in StandOnce p.files (all_codes w.classes))
+  pub keeps : Keeps (world p)
+  pub subtypes : KeepsSubtypes (world p)
+  pub tokens : KeepsTokens (world p)
+  pub no_static : NoStaticMethods (world p)
+  pub objects : (kind : Shape (List ℕ)) → Receives (world p) (Some kind)
+      → is_subtype (world p) (shape_name kind) object ≡ true
+  pub methods : AreMethods p
+  pub ready : AreReady p
+  -- Method has at most 65,535 bytes
+  pub small : IsSmall p
+  -- 311
+  pub ordered : (k : ℕ) (m : LaidMethod) → slice_get p.methods k ≡ Some m
+      → (let code = m.code in overtaking [] code.catches ≡ [])

@@ -1,4 +1,3 @@
 pub mod Types
 pub mod Fields
-pub mod Sources
 pub mod Named

@@ -19,11 +19,16 @@ ghost use Rattle.cjc_ncode.specs.declared.narrow.NInsn.{NInsn as Narrow};
 ghost use Rattle.cjc_narrow_proof.specs.Selected.Names.{NamesFit};
 ghost use Rattle.cjc_token_proof.specs.Tables.Loading.{naming};
 ghost use Rattle.cjc_token_proof.specs.WrittenCalls.Calls.{ExportsKeep, IsNamed};
+ghost use Rattle.cjc_components.specs.Bytecode.declared.method_code.MethodCode.{MethodCode};
+ghost use Rattle.cjc_shape_proof.specs.Written.Checked.{IsOfFiles};
 ghost use Rattle.cjc_shape_proof.specs.Written.Converted.{IsConverted};
+ghost use Rattle.cjc_shape_proof.specs.LowerCheckProof.Code.Kinds.{AllHaveKinds};
+ghost use Rattle.cjc_token_proof.specs.WrittenCalls.Standing.{IsSmall};
 ghost use Rattle.cjc_shape_proof.specs.Written.Joined.{NamesAreThere};
 
-use cjc_shape_proof::written::{converted_classes_keep_rules, converted_methods_are_consistent};
+use cjc_shape_proof::written::converted_methods_are_consistent;
 use cjc_token_proof::written_calls::calls_fit_their_keys;
+use cjc_vtable::package_laws;
 
 /// The export files of a converted package have static initialisers, java/lang/Object is a class there, and
 /// each of their interfaces has its methods by their places.
@@ -32,9 +37,19 @@ pub fn export_files_are_kept()
         → IsConverted list files judged p → ExportsKeep p }
 {}
 
-/// What each instruction of its methods names stands in its pool and means what the opcode uses: classes,
-/// fields, static fields of the package, and methods by how they are called, imported ones too. So does what
-/// each handler catches; entry 0 serves one that names java/lang/Object.
+/// What each instruction of a package's methods names stands in its pool and means what the opcode uses: classes,
+/// fields, static fields of the package, and methods by how they are called, imported ones too. So does what each
+/// handler catches; entry 0 serves one that names java/lang/Object. So it is where code names what its class files
+/// name, whichever methods are in int mode, Method is short, and keys are of the kinds that their opcodes use.
+pub fn names_of_files_are_there()
+    ensures { (list : ListTree) (codes : List MethodCode) (p : Package) → IsOfFiles list codes p
+        → CallsHaveOpcodes codes → IsSmall p → AllHaveKinds p.methods → NamesAreThere p }
+{
+    calls_fit_their_keys();
+    package_laws();
+}
+
+/// So it is with a converted package.
 pub fn names_are_there()
     ensures instructions { (list : ListTree) (files : List (List ℕ)) (judged : Judged) (p : Package)
         → IsConverted list files judged p → CallsHaveOpcodes judged.codes
@@ -43,20 +58,19 @@ pub fn names_are_there()
     ensures all { (list : ListTree) (files : List (List ℕ)) (judged : Judged) (p : Package)
         → IsConverted list files judged p → CallsHaveOpcodes judged.codes → NamesAreThere p }
 {
-    calls_fit_their_keys();
-    converted_classes_keep_rules();
     converted_methods_are_consistent();
+    names_of_files_are_there();
 }
 
 /// What an invokestatic calls, and the constructor that an invokespecial calls, is a method that calls can
 /// name, by the class that declares it.
 pub fn fixed_calls_are_named()
-    ensures statics { (list : ListTree) (files : List (List ℕ)) (judged : Judged) (p : Package)
-        → IsConverted list files judged p → (class : ClassTree) (id : Member)
-        → IsInsnOf p.files judged.codes class (jop.Call jvm.invokestatic id)
+    ensures statics { (list : ListTree) (codes : List MethodCode) (p : Package)
+        → IsOfFiles list codes p → (class : ClassTree) (id : Member)
+        → IsInsnOf p.files codes class (jop.Call jvm.invokestatic id)
         → IsNamed (world p) (Fixed false (resolved_method (world p) id)) }
-    ensures constructors { (list : ListTree) (files : List (List ℕ)) (judged : Judged) (p : Package)
-        → IsConverted list files judged p → (class : ClassTree) (id : Member)
-        → IsInsnOf p.files judged.codes class (jop.Call jvm.invokespecial id) → is_constructor id.name ≡ true
+    ensures constructors { (list : ListTree) (codes : List MethodCode) (p : Package)
+        → IsOfFiles list codes p → (class : ClassTree) (id : Member)
+        → IsInsnOf p.files codes class (jop.Call jvm.invokespecial id) → is_constructor id.name ≡ true
         → IsNamed (world p) (Fixed true (resolved_method (world p) id)) }
 {}

@@ -1,4 +1,4 @@
-//! That the calls of virtual methods in the code of a converted package, by invokevirtual and by invokespecial
+//! That the calls of virtual methods in the code of a package, by invokevirtual and by invokespecial
 //! on what its superclass has, are ones that can be named, and which words they take. For whoever promises that
 //! each call reaches by token what it reaches by name. It has a definition and laws alone, and knows no static,
 //! private or interface call; nothing here runs.
@@ -11,17 +11,16 @@ ghost use Rattle.cjc_world.specs.ClassFile.declared.tree.ClassTree.{ClassTree};
 ghost use Rattle.cjc_components.specs.Bytecode.Jvm as jvm;
 ghost use Rattle.cjc_components.specs.Bytecode.declared.insn.JOp.TheVariants as jop;
 ghost use Rattle.cjc_components.specs.Package.{Package, world};
-ghost use Rattle.cjc_shape_proof.specs.LowerJudge.declared.judged.Judged.{Judged};
+ghost use Rattle.cjc_components.specs.Bytecode.declared.method_code.MethodCode.{MethodCode};
 ghost use Rattle.cjc_token_proof.specs.List.Listed.{ListTree};
 ghost use Rattle.cjc_token_proof.specs.Narrow.Rows.Resolved.{method_found, virtual_by};
 ghost use Rattle.cjc_narrow_proof.specs.Laws.Unbroken.{IsInsnOf};
 ghost use Rattle.cjc_ncode.specs.ByLabel.{OnObject, OnSuper};
 ghost use Rattle.cjc_world.specs.Classes.{class_named};
 ghost use Rattle.cjc_token_proof.specs.WrittenCalls.Calls.{IsNamed, TakesWords};
-ghost use Rattle.cjc_shape_proof.specs.Written.Converted.{IsConverted};
+ghost use Rattle.cjc_shape_proof.specs.Written.Checked.{IsOfFiles};
 
 use cjc_shape_proof::check_proof::flags::methods_keep_flags;
-use cjc_shape_proof::written::{converted_classes_keep_rules, converted_files_are_sound};
 use cjc_tokens::token_laws::interface_tokens_mean_methods;
 use cjc_vtable::package_laws;
 use cjc_vtable::slot_laws::asked_methods_have_tokens;
@@ -31,18 +30,16 @@ use cjc_world::lookup_laws;
 /// package, and by the one that declares the method otherwise: a public or protected one, a package-visible
 /// one, or one that an abstract class got from an interface. It takes the words of its descriptor.
 pub fn virtual_calls_are_named()
-    ensures named { (list : ListTree) (files : List (List ℕ)) (judged : Judged) (p : Package)
-        → IsConverted list files judged p → (class : ClassTree) (id : Member)
-        → IsInsnOf p.files judged.codes class (jop.Call jvm.invokevirtual id)
+    ensures named { (list : ListTree) (codes : List MethodCode) (p : Package)
+        → IsOfFiles list codes p → (class : ClassTree) (id : Member)
+        → IsInsnOf p.files codes class (jop.Call jvm.invokevirtual id)
         → IsNamed (world p) (OnObject (virtual_by (world p) id (class_named (world p) id.class))) }
-    ensures words { (list : ListTree) (files : List (List ℕ)) (judged : Judged) (p : Package)
-        → IsConverted list files judged p → (class : ClassTree) (id : Member)
-        → IsInsnOf p.files judged.codes class (jop.Call jvm.invokevirtual id)
+    ensures words { (list : ListTree) (codes : List MethodCode) (p : Package)
+        → IsOfFiles list codes p → (class : ClassTree) (id : Member)
+        → IsInsnOf p.files codes class (jop.Call jvm.invokevirtual id)
         → TakesWords (world p) (OnObject (virtual_by (world p) id (class_named (world p) id.class))) }
 {
     asked_methods_have_tokens();
-    converted_classes_keep_rules();
-    converted_files_are_sound();
     interface_tokens_mean_methods();
     lookup_laws();
     methods_keep_flags();
@@ -52,20 +49,18 @@ pub fn virtual_calls_are_named()
 /// What an invokespecial in a class calls, where it is neither a constructor nor private, is a virtual method
 /// that the superclass and the class have by one token. It takes the words of its descriptor.
 pub fn super_calls_are_named()
-    ensures named { (list : ListTree) (files : List (List ℕ)) (judged : Judged) (p : Package)
-        → IsConverted list files judged p → (class : ClassTree) (id : Member)
-        → IsInsnOf p.files judged.codes class (jop.Call jvm.invokespecial id)
+    ensures named { (list : ListTree) (codes : List MethodCode) (p : Package)
+        → IsOfFiles list codes p → (class : ClassTree) (id : Member)
+        → IsInsnOf p.files codes class (jop.Call jvm.invokespecial id)
         → is_interface class.flags ≡ false → is_constructor id.name ≡ false
         → (hit : ResolvedMember) → method_found (world p) id ≡ Some hit → is_private hit.flags ≡ false
         → IsNamed (world p) (OnSuper (of_class class.name id)) }
-    ensures words { (list : ListTree) (files : List (List ℕ)) (judged : Judged) (p : Package)
-        → IsConverted list files judged p → (class : ClassTree) (id : Member)
-        → IsInsnOf p.files judged.codes class (jop.Call jvm.invokespecial id)
+    ensures words { (list : ListTree) (codes : List MethodCode) (p : Package)
+        → IsOfFiles list codes p → (class : ClassTree) (id : Member)
+        → IsInsnOf p.files codes class (jop.Call jvm.invokespecial id)
         → TakesWords (world p) (OnSuper (of_class class.name id)) }
 {
     asked_methods_have_tokens();
-    converted_classes_keep_rules();
-    converted_files_are_sound();
     interface_tokens_mean_methods();
     lookup_laws();
     methods_keep_flags();

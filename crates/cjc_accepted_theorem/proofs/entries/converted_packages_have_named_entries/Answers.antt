@@ -2,6 +2,7 @@ use Rattle.cjc_accepted_theorem.proofs.PoolLaws.{all_named}
 use Rattle.cjc_accepted_theorem.proofs.entries.converted_packages_have_named_entries.Goals as goal
 use Rattle.cjc_verified_proof.specs.Bytecode.PackageCodes.{all_codes}
 use Rattle.cjc_verified_proof.specs.Components.Package.{world}
+use Rattle.cjc_theorem.proofs.ShapeProofOfFiles.{is_of_files}
 use Rattle.cjc_theorem.proofs.ShapeProofFiles.{files_sound}
 use Rattle.cjc_theorem.proofs.AlikeLaws.MetLaws.Cells.{cells_fit}
 use Rattle.cjc_theorem.proofs.AlikeLaws.MetLaws.LaidOut.{laid_out}
@@ -29,5 +30,6 @@ returns c = λ list files judged p is.
     let mean = c.tokens_mean_methods.ensures in
     all_named list files judged p is (methods.methods list files judged p is) told fit known (kept.tokens list files
     judged p is) (mean.public (world p) keeps.rules known.placed) (mean.package_visible (world p) keeps.rules)
-    (c.virtual_calls_are_named.ensures.named list files judged p is) (c.super_calls_are_named.ensures.named list files
-    judged p is) (c.calls_have_opcodes.ensures list files judged is.sound)
+    (c.virtual_calls_are_named.ensures.named list judged.codes p (is_of_files list files judged p is))
+    (c.super_calls_are_named.ensures.named list judged.codes p (is_of_files list files judged p is))
+    (c.calls_have_opcodes.ensures list files judged is.sound)

@@ -4,6 +4,7 @@ use Rattle.std.specs.Prelude.{None, Some, option_and_then}
 use Rattle.cjc_bytes.specs.declared.fault.MemberId.{MemberId}
 use Rattle.cjc_jvm_semantics.specs.OnePackage.{constant_at, of_class}
 use Rattle.cjc_token_proof.specs.ByToken.Cells.{HasCells, fields, is_one_of, letter}
+use Rattle.cjc_shape_proof.proofs.WrittenLaws.Insns.{cast_there, op_fit, op_there, test_there}
 use Rattle.cjc_shape_proof.specs.WorldProof.Calls.Solid.{IsSolid}
 use Rattle.cjc_token_proof.specs.CardSemantics.Machine.ByToken.{letter_of}
 use Rattle.cjc_world.specs.ClassFile.declared.tree.ClassTree.{ClassTree}
@@ -14,36 +15,30 @@ use Rattle.cjc_components.specs.Package.{Package, world}
 use Rattle.cjc_theorem.proofs.AlikeLaws.InsnNames.Fields.{object_field, static_field}
 use Rattle.cjc_theorem.proofs.AlikeLaws.InsnNames.Types.{class_is_there, made_is_there, type_is_there}
 use Rattle.cjc_shape_proof.specs.LowerJudge.Rules.{settings_of}
-use Rattle.cjc_shape_proof.specs.LowerJudge.declared.judged.Judged.{Judged}
 use Rattle.cjc_token_proof.specs.List.Listed.{ListTree}
 use Rattle.cjc_theorem.proofs.AlikeLaws.NamedLaws.Members.{field_named, static_named, static_own}
 use Rattle.cjc_token_proof.specs.Narrow.Rows.Resolved.{constant_named, resolved_field}
-use Rattle.cjc_narrow_proof.proofs.LawsLaws.Casts.{cast_there, test_there}
-use Rattle.cjc_narrow_proof.proofs.LawsLaws.Instructions.{array_of_class, new_fields, op_fit, op_there}
-use Rattle.cjc_narrow_proof.specs.Laws.Unbroken.{IsInsnOf, IsUnbroken}
+use Rattle.cjc_narrow_proof.proofs.LawsLaws.Instructions.{array_of_class, new_fields}
+use Rattle.cjc_narrow_proof.specs.Laws.Unbroken.{IsInsnOf}
 use Rattle.cjc_token_proof.specs.Script.Sorts.{field_sort}
 use Rattle.cjc_token_proof.specs.Tables.Known.{is_field_of, may_name, order_of, statics_of}
 use Rattle.cjc_vtable.proofs.Filed.{filed}
 use Rattle.cjc_world.specs.Classes.{Class}
-use Rattle.cjc_shape_proof.proofs.WrittenLaws.Files.{are_spelt, own_unbroken}
-use Rattle.cjc_shape_proof.proofs.WrittenLaws.Worlds.{own_solid}
-use Rattle.cjc_shape_proof.specs.Written.Converted.{IsConverted}
+use Rattle.cjc_shape_proof.proofs.WrittenLaws.Checked.{are_spelt, own_names}
+use Rattle.cjc_shape_proof.proofs.WrittenLaws.Checked.{own_solid}
+use Rattle.cjc_shape_proof.specs.Written.Checked.{IsOfFiles, KeepsNames}
 use Rattle.cjc_token_proof.specs.WrittenSends.Named.{NamesWhatIsThere}
 
-module _ (list : ListTree) (files : List (List ℕ)) (judged : Judged) (p : Package) (is : IsConverted list files judged
-    p)
+module _ (list : ListTree) (codes : List MethodCode) (p : Package) (is : IsOfFiles list codes p)
     (cells : HasCells (order_of p.image) (statics_of (let w = p.files in w.classes))) (class : ClassTree) where
   abbrev w : List Class
   w = world p
 
-  abbrev codes : List MethodCode
-  codes = judged.codes
-
-  abbrev u : IsUnbroken list.name p.files judged.codes (settings_of list)
-  u = own_unbroken list files judged p is
+  abbrev u : KeepsNames list.name p.files codes (settings_of list)
+  u = own_names list codes p is.checked
 
   abbrev solid : IsSolid p.files
-  solid = own_solid list files judged p is
+  solid = own_solid list codes p is.checked
 
   static_there : (put : Bool) (id : MemberId) → IsInsnOf p.files codes class (jop.Static put id)
       → constant_named p.files w id ≡ None
@@ -81,7 +76,7 @@ module _ (list : ListTree) (files : List (List ℕ)) (judged : Judged) (p : Pack
       let found = array_of_class w name ok.0 fit.0 in
       class_is_there w name found.0 found.1
   names_what_is_there (jop.CheckCast name) at = type_is_there w name (cast_there list.name p.files codes
-      (settings_of list) u (are_spelt list files judged p is) class name at)
+      (settings_of list) u (are_spelt list codes p is.checked) class name at)
   names_what_is_there (jop.InstanceOf name) at = type_is_there w name (test_there list.name p.files codes
-      (settings_of list) u (are_spelt list files judged p is) class name at)
+      (settings_of list) u (are_spelt list codes p is.checked) class name at)
   names_what_is_there _ at = tt

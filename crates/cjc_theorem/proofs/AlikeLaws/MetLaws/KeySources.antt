@@ -1,6 +1,8 @@
 -- What each key of a converted package's pool names, by the instruction of a class file that names it.
 use Rattle.std.proofs.Common.{◌≡◌, ⊎_elim, ℕ, refl, sym, ap, subst, ◌∙◌, Bool, true, false, List, [], ◌∷◌}
 use Rattle.std.specs.Prelude.{Option, Some, None, option_and_then, slice_get, if◌then◌else◌}
+use Rattle.cjc_shape_proof.proofs.WrittenLaws.Insns.{cast_there, op_fit, op_there, test_there}
+use Rattle.cjc_shape_proof.specs.Written.Checked.{KeepsNames}
 use Rattle.cjc_bytes.specs.AccessFlags.{is_interface}
 use Rattle.cjc_bytes.specs.declared.fault.MemberId.{MemberId}
 use Rattle.cjc_jvm_semantics.specs.OnePackage.{is_made, object_fields}
@@ -11,21 +13,22 @@ use Rattle.cjc_components.specs.Bytecode.declared.method_code.MethodCode.{Method
 use Rattle.cjc_narrow_proof.specs.Sources as sources
 use Rattle.cjc_narrow_proof.specs.Sources.{IsWrittenFor, NamesClass, names_nothing}
 use Rattle.cjc_components.specs.Package.{LaidMethod, Package, pool, world}
+use Rattle.cjc_shape_proof.proofs.WrittenLaws.OfFiles.{is_of_files}
 use Rattle.cjc_shape_proof.proofs.WrittenLaws.FittingLaws.Order.{has_cons, has_none}
 use Rattle.cjc_shape_proof.specs.LowerJudge.Rules.{settings_of}
 use Rattle.cjc_shape_proof.specs.LowerJudge.declared.judged.Judged.{Judged}
 use Rattle.cjc_token_proof.specs.List.Listed.{ListTree}
 use Rattle.cjc_theorem.specs.Alike.Opcodes.{CallsHaveOpcodes}
 use Rattle.cjc_theorem.proofs.AlikeLaws.NamedLaws.Members.{NamesMethod, method_named}
-use Rattle.cjc_theorem.proofs.AlikeLaws.NamedLaws.Sources.{has_catch, has_source, holder}
+use Rattle.cjc_theorem.proofs.AlikeLaws.NamedLaws.Sources.{HasSource, has_catch, has_source, holder}
+use Rattle.cjc_theorem.proofs.AlikeLaws.NamedLaws.Sources.{no_source, of_insn}
 use Rattle.cjc_token_proof.specs.Narrow.Rows.Resolved.{constant_named, method_found, resolution, resolved_field}
 use Rattle.cjc_token_proof.specs.Narrow.Rows.Resolved.{resolved_method}
 use Rattle.cjc_token_proof.specs.Narrow.Rows.Resolved.{special_by, virtual_by}
 use Rattle.cjc_token_proof.specs.Narrow.Rows.Selected.{near_fields}
-use Rattle.cjc_narrow_proof.specs.Laws.Unbroken.{IsInsnOf, IsUnbroken}
-use Rattle.cjc_narrow_proof.proofs.LawsLaws.Casts.{cast_there, test_there}
+use Rattle.cjc_narrow_proof.specs.Laws.Unbroken.{IsInsnOf}
 use Rattle.cjc_narrow_proof.proofs.LawsLaws.Handlers.{caught_there, class_there}
-use Rattle.cjc_narrow_proof.proofs.LawsLaws.Instructions.{array_of_class, new_fields, op_fit, op_there}
+use Rattle.cjc_narrow_proof.proofs.LawsLaws.Instructions.{array_of_class, new_fields}
 use Rattle.cjc_narrow_proof.specs.Runs.Types as types
 use Rattle.cjc_narrow_proof.specs.Runs.Types.{IsThere}
 use Rattle.cjc_ncode.specs.PoolOrder.{class_key, insn_keys}
@@ -39,7 +42,7 @@ use Rattle.cjc_vtable.proofs.Filed.{Has}
 use Rattle.cjc_world.specs.Classes.{Class, all_classes, class_named, declared}
 use Rattle.cjc_world.specs.Files.{Files}
 use Rattle.cjc_shape_proof.specs.Written.Converted.{IsConverted}
-use Rattle.cjc_shape_proof.proofs.WrittenLaws.Files.{are_spelt, own_unbroken}
+use Rattle.cjc_shape_proof.proofs.WrittenLaws.Files.{are_spelt, own_names}
 use Rattle.cjc_shape_proof.proofs.WrittenLaws.Worlds.{own_solid}
 use Rattle.cjc_theorem.proofs.AlikeLaws.MetLaws.PoolKeys.{IsNamedIn, by_handler, by_insn, key_named, of_any}
 
@@ -87,8 +90,8 @@ module _ (list : ListTree) (files : List (List ℕ)) (judged : Judged) (p : Pack
   abbrev codes : List MethodCode
   codes = judged.codes
 
-  abbrev u : IsUnbroken list.name p.files judged.codes (settings_of list)
-  u = own_unbroken list files judged p is
+  abbrev u : KeepsNames list.name p.files judged.codes (settings_of list)
+  u = own_names list files judged p is
 
   abbrev pub Calls_method : (class : ClassTree) (op : ℕ) (id : MemberId) → Type 0
   Calls_method class op id = NamesMethod list.name p.files judged.codes (settings_of list) u
@@ -185,10 +188,16 @@ module _ (list : ListTree) (files : List (List ℕ)) (judged : Judged) (p : Pack
         → (let code = m.code in slice_get code.insns j ≡ Some insn) → (key : PoolKey) → Has key (insn_keys insn)
         → IsMet p.files codes key
     insn_met k m e j insn f key h =
-        let s = has_source list files judged p is k m e j insn f in
-        let o = holder list files judged p is k m e in
-        source_met (near_fields (pool p)) (let g = m.member in g.class) o.class o.named o.no_interface s.op insn s.of
-        s.written key h
+        by (has_source list judged.codes p (is_of_files list files judged p is) k m e j insn f)
+      where
+        by : HasSource p.files codes (near_fields (pool p))
+            (let q = holder list judged.codes p (is_of_files list files judged p is) k m e in q.class) insn
+            → IsMet p.files codes key
+        by (no_source none) = has_none key (subst (λ ks. Has key ks) (no_key insn none) h)
+        by (of_insn op of written) =
+            let q = holder list judged.codes p (is_of_files list files judged p is) k m e in
+            source_met (near_fields (pool p)) (let g = m.member in g.class) q.class q.named q.no_interface op insn of
+            written key h
 
     -- ---- classes that handlers name
 
@@ -200,7 +209,7 @@ module _ (list : ListTree) (files : List (List ℕ)) (judged : Judged) (p : Pack
         by : (o : Option (List ℕ)) → c.class ≡ o → Has key (class_key o) → IsMet p.files codes key
         by None g h = has_none key h
         by (Some name) g h =
-            let s = has_catch list files judged p is k m e j c f in
+            let s = has_catch list judged.codes p (is_of_files list files judged p is) k m e j c f in
             let x = s.handler in
             let at = class_there w name (caught_there p.files codes u.names s.code _ s.method s.tree s.of s.listed x
             name s.there (s.same ∙ g)) in

@@ -6,6 +6,7 @@ use Rattle.std.specs.Prelude.{slice_get, if◌then◌else◌, ℤ}
 use Rattle.std.specs.List.{list_any}
 use Rattle.std.specs.Str.{bytes_eq}
 use Rattle.std.proofs.lemmas.Bool.{eqb-true, and_from}
+use Rattle.cjc_shape_proof.specs.Written.Checked.{KeepsNames}
 use Rattle.cjc_bytes.specs.AccessFlags.{is_interface, is_static}
 use Rattle.cjc_bytes.specs.declared.fault.MemberId.{MemberId}
 use Rattle.cjc_bytes.proofs.Gets.{all_at}
@@ -30,7 +31,6 @@ use Rattle.cjc_token_proof.specs.List.Listed.{ListTree}
 use Rattle.cjc_theorem.proofs.AlikeLaws.NamedLaws.Members.{NamesField, NamesMethod, static_own}
 use Rattle.cjc_token_proof.specs.Narrow.Rows.Resolved.{constant_named}
 use Rattle.cjc_narrow_proof.proofs.LawsLaws.Own.{first_here}
-use Rattle.cjc_narrow_proof.specs.Laws.Unbroken.{IsUnbroken}
 use Rattle.cjc_token_proof.specs.Subset.Checks.{is_imported_variable}
 use Rattle.cjc_token_proof.specs.Subset.Members.{imported_field, is_imported_constant}
 use Rattle.cjc_token_proof.specs.Subset.Members as subset
@@ -47,7 +47,7 @@ use Rattle.cjc_world.specs.declared.found.Found.{Found}
 use Rattle.cjc_world.proofs.Settled.{supertypes-AreSupertypes}
 use Rattle.cjc_token_proof.proofs.WrittenCalls.Found.{stands_in_method}
 use Rattle.cjc_shape_proof.specs.Written.Converted.{IsConverted}
-use Rattle.cjc_shape_proof.proofs.WrittenLaws.Files.{files_sound, own_unbroken}
+use Rattle.cjc_shape_proof.proofs.WrittenLaws.Files.{files_sound, own_names}
 use Rattle.cjc_shape_proof.proofs.WrittenLaws.Worlds.{own_ordered, own_solid}
 use Rattle.cjc_shape_proof.proofs.FindsLaws.Fields.{no_constant}
 use Rattle.cjc_theorem.proofs.AlikeLaws.MetLaws.Cells.{has_cell, is_static_of}
@@ -114,8 +114,8 @@ module _ (list : ListTree) (files : List (List ℕ)) (judged : Judged) (p : Pack
   abbrev w : List Class
   w = world p
 
-  abbrev u : IsUnbroken list.name p.files judged.codes (settings_of list)
-  u = own_unbroken list files judged p is
+  abbrev u : KeepsNames list.name p.files judged.codes (settings_of list)
+  u = own_names list files judged p is
 
   abbrev solid : IsSolid p.files
   solid = own_solid list files judged p is

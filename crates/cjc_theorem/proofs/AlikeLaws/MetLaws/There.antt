@@ -8,6 +8,8 @@ use Rattle.cjc_bytes.specs.declared.fault.MemberId.{MemberId}
 use Rattle.cjc_bytes.proofs.Bools.{or_right, clash}
 use Rattle.cjc_jvm_semantics.specs.OnePackage.{ResolvedMember, is_constructor, method_hit, of_class}
 use Rattle.cjc_token_proof.specs.ByToken.Cells.{HasCells}
+use Rattle.cjc_shape_proof.proofs.WrittenLaws.Insns.{op_there}
+use Rattle.cjc_shape_proof.proofs.WrittenLaws.OfFiles.{is_of_files}
 use Rattle.cjc_shape_proof.specs.LowerCheckProof.Classes.Premises.{names_known}
 use Rattle.cjc_world.specs.ClassFile.declared.tree.ClassTree.{ClassTree}
 use Rattle.cjc_components.specs.Bytecode.declared.insn.JOp.TheVariants as jop
@@ -24,7 +26,6 @@ use Rattle.cjc_token_proof.specs.List.Listed.{ListTree}
 use Rattle.cjc_theorem.proofs.AlikeLaws.NamedLaws.Members.{field_named, static_named, static_own}
 use Rattle.cjc_theorem.proofs.AlikeLaws.NamedLaws.Names.{called, fixed_in_class, private_own}
 use Rattle.cjc_shape_proof.proofs.FindsLaws.Descs.{member_desc}
-use Rattle.cjc_narrow_proof.proofs.LawsLaws.Instructions.{op_there}
 use Rattle.cjc_narrow_proof.specs.Laws.Unbroken.{IsInsnOf}
 use Rattle.cjc_token_proof.specs.Subset.Names.{is_name_missing, names_missing}
 use Rattle.cjc_token_proof.specs.Narrow.Rows.Resolved.{method_found, resolved_method, special_by, virtual_by}
@@ -38,7 +39,7 @@ use Rattle.cjc_world.specs.Classes.{Class, class_named}
 use Rattle.cjc_world.specs.Rules.{is_desc_missing}
 use Rattle.cjc_token_proof.specs.WrittenCalls.Calls.{IsNamed}
 use Rattle.cjc_shape_proof.specs.Written.Converted.{IsConverted}
-use Rattle.cjc_shape_proof.proofs.WrittenLaws.Files.{own_unbroken, read_files}
+use Rattle.cjc_shape_proof.proofs.WrittenLaws.Files.{own_names, read_files}
 use Rattle.cjc_shape_proof.proofs.WrittenLaws.Worlds.{own_solid}
 use Rattle.cjc_theorem.proofs.AlikeLaws.MetLaws.Abroad.{abroad_named}
 use Rattle.cjc_theorem.proofs.AlikeLaws.MetLaws.Descs.{desc_known}
@@ -107,16 +108,17 @@ module _ (list : ListTree) (files : List (List ℕ)) (judged : Judged) (p : Pack
   pub key_known : (key : PoolKey) → IsMet p.files codes key → names_known w key ≡ true
   key_known _ (sources.of_class c e) = ap is_some e
   key_known _ (sources.of_field class put id of) =
-      let n = field_named list.name p.files codes (settings_of list) (own_unbroken list files judged p is)
+      let n = field_named list.name p.files codes (settings_of list) (own_names list files judged p is)
       (own_solid list files judged p is) class put id of in
       ap (λ (q : MemberId). is_some (class_named w q.class)) n.resolved ∙ ap is_some n.named
   key_known _ (sources.of_static class put id of none) = refl
   key_known _ (sources.of_virtual class id of) =
-      let n = called list files judged p is class 0xB6 id of in
+      let n = called list judged.codes p (is_of_files list files judged p is) class 0xB6 id of in
       virtual_key (λ m. names_known w (keys.Virtual m) ≡ true) class id n (ap is_some n.named)
       (λ own. ap is_some n.names_class)
   key_known _ (sources.of_special k class id named plain of) =
-      special_key (λ key. names_known w key ≡ true) class.name class id (called list files judged p is class 0xB7 id of)
+      special_key (λ key. names_known w key ≡ true) class.name class id (called list judged.codes p (is_of_files list
+      files judged p is) class 0xB7 id of)
       (λ e. refl) (λ e. refl) (λ e f. ap is_some named)
   key_known _ (sources.of_call class id of) = refl
 
@@ -126,9 +128,9 @@ module _ (list : ListTree) (files : List (List ℕ)) (judged : Judged) (p : Pack
       → IsKnownDesc list files judged p is id.desc
   unfolding names_missing
   call_desc class op id of =
-      let n = called list files judged p is class op id of in
+      let n = called list judged.codes p (is_of_files list files judged p is) class op id of in
       let at = n.at in
-      let ok = op_there list.name p.files codes (settings_of list) (own_unbroken list files judged p is) class
+      let ok = op_there list.name p.files codes (settings_of list) (own_names list files judged p is) class
       (jop.Call op id) of in
       let short = (member_desc p.files (read_files list files judged p is) n.owner n.named at.place at.member
       at.is_member).1 in
@@ -144,29 +146,29 @@ module _ (list : ListTree) (files : List (List ℕ)) (judged : Judged) (p : Pack
       → IsKnownDesc list files judged p is desc
   key_desc _ (sources.of_class c e) desc h = has_none desc h
   key_desc _ (sources.of_field class put id of) desc h =
-      let n = field_named list.name p.files codes (settings_of list) (own_unbroken list files judged p is)
+      let n = field_named list.name p.files codes (settings_of list) (own_names list files judged p is)
       (own_solid list files judged p is) class put id of in
       only_desc desc id.desc (field_desc list files judged p is id false n (field_own list files judged p is id n))
       (subst (λ (q : MemberId). Has desc (q.desc ∷ [])) n.resolved h)
   key_desc _ (sources.of_static class put id of none) desc h =
-      let n = static_named list.name p.files codes (settings_of list) (own_unbroken list files judged p is)
+      let n = static_named list.name p.files codes (settings_of list) (own_names list files judged p is)
       (own_solid list files judged p is) class put id of in
-      let own = static_own list.name p.files codes (settings_of list) (own_unbroken list files judged p is)
+      let own = static_own list.name p.files codes (settings_of list) (own_names list files judged p is)
       (own_solid list files judged p is) id n none in
       only_desc desc id.desc (field_desc list files judged p is id true n own)
       (subst (λ (q : MemberId). Has desc (q.desc ∷ [])) n.resolved h)
   key_desc _ (sources.of_virtual class id of) desc h =
       virtual_key (λ m. Has desc (m.desc ∷ []) → IsKnownDesc list files judged p is desc) class id
-      (called list files judged p is class 0xB6 id of)
+      (called list judged.codes p (is_of_files list files judged p is) class 0xB6 id of)
       (only_desc desc id.desc (call_desc class 0xB6 id of)) (λ own. only_desc desc id.desc (call_desc class 0xB6 id of))
       h
   key_desc _ (sources.of_special k class id named plain of) desc h =
       special_key (λ key. Has desc (desc_of_key key) → IsKnownDesc list files judged p is desc) class.name class id
-      (called list files judged p is class 0xB7 id of)
+      (called list judged.codes p (is_of_files list files judged p is) class 0xB7 id of)
       (λ e. only_desc desc id.desc (call_desc class 0xB7 id of)) (λ e. only_desc desc id.desc (call_desc class 0xB7 id
       of)) (λ e f. only_desc desc id.desc (call_desc class 0xB7 id of)) h
   key_desc _ (sources.of_call class id of) desc h =
-      let n = called list files judged p is class 0xB8 id of in
+      let n = called list judged.codes p (is_of_files list files judged p is) class 0xB8 id of in
       only_desc desc id.desc (call_desc class 0xB8 id of) (subst (λ (q : MemberId). Has desc (q.desc ∷ [])) n.resolved
       h)
 
@@ -195,26 +197,28 @@ module _ (list : ListTree) (files : List (List ℕ)) (judged : Judged) (p : Pack
     pub key_there : (key : PoolKey) → IsMet p.files codes key → IsThere p key
     key_there _ (sources.of_class c e) = member members.of_class
     key_there _ (sources.of_field class put id of) =
-        let n = field_named list.name p.files codes (settings_of list) (own_unbroken list files judged p is)
+        let n = field_named list.name p.files codes (settings_of list) (own_names list files judged p is)
         (own_solid list files judged p is) class put id of in
         subst (λ q. IsThere p (keys.Field q)) (sym n.resolved)
         (member (members.of_field (own_field_named list files judged p is id n)))
     key_there _ (sources.of_static class put id of none) =
-        let n = static_named list.name p.files codes (settings_of list) (own_unbroken list files judged p is)
+        let n = static_named list.name p.files codes (settings_of list) (own_names list files judged p is)
         (own_solid list files judged p is) class put id of in
         subst (λ q. IsThere p (keys.StaticField q)) (sym n.resolved)
         (member (members.of_cell (own_cell_named list files judged p is told fit id n none)))
     key_there _ (sources.of_virtual class id of) = called_object (virtuals class id of)
     key_there _ (sources.of_special k class id named plain of) = special_key (IsThere p) class.name class id n
-        (λ e. fixed_there class 0xB7 id n (fixed_in_class list files judged p is class 0xB7 id n
+        (λ e. fixed_there class 0xB7 id n (fixed_in_class list judged.codes p (is_of_files list files judged p is)
+        class 0xB7 id n
         (third (is_static flags) (is_private flags) (is_constructor id.name) e)) (λ import. bound e))
-        (λ e. fixed_there class 0xB7 id n (fixed_in_class list files judged p is class 0xB7 id n
+        (λ e. fixed_there class 0xB7 id n (fixed_in_class list judged.codes p (is_of_files list files judged p is)
+        class 0xB7 id n
         (second (is_static flags) (is_private flags) (is_constructor id.name) e)) (λ import. not_abroad import e))
         (λ e f. called_above (supers class id of plain e (record { owner = n.owner; flags = flags })
         (ap (option_and_then (method_hit w)) n.found ∙ n.hit) f))
       where
         n : Names_method list files judged p is class 0xB7 id
-        n = called list files judged p is class 0xB7 id of
+        n = called list judged.codes p (is_of_files list files judged p is) class 0xB7 id of
 
         flags : ℕ
         flags = let a = n.at in let m = a.member in m.flags
@@ -238,13 +242,14 @@ module _ (list : ListTree) (files : List (List ℕ)) (judged : Judged) (p : Pack
             last false b e = e
 
         not_abroad : {A : Type 0} → (let d = n.owner in d.is_imported) ≡ true → is_private flags ≡ true → A
-        not_abroad import e = clash (let d = n.owner in d.is_imported) import (private_own list files judged p
-            is class 0xB7 id n e)
+        not_abroad import e = clash (let d = n.owner in d.is_imported) import (private_own list judged.codes p
+            (is_of_files list files judged p is) class 0xB7 id n e)
     key_there _ (sources.of_call class id of) =
-        let n = called list files judged p is class 0xB8 id of in
+        let n = called list judged.codes p (is_of_files list files judged p is) class 0xB8 id of in
         let flags = (let a = n.at in let m = a.member in m.flags) in
         let static : is_static flags ≡ true = (let g = n.fits in g.of_class) refl in
         subst (λ q. IsThere p (keys.StaticMethod q)) (sym n.resolved)
-        (fixed_there class 0xB8 id n (fixed_in_class list files judged p is class 0xB8 id n (ap (λ a. a
+        (fixed_there class 0xB8 id n (fixed_in_class list judged.codes p (is_of_files list files judged p is) class
+        0xB8 id n (ap (λ a. a
         || is_private flags || is_constructor id.name) static))
         (λ import. ap (λ a. a || is_constructor (let a = n.at in let m = a.member in m.name)) static))

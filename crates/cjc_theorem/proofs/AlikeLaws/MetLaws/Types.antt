@@ -28,7 +28,7 @@ use Rattle.cjc_world.specs.Classes.{Class, Member, class_named, declared, method
 use Rattle.cjc_world.specs.Order.{class_order}
 use Rattle.cjc_world.specs.Rules.{is_desc_missing}
 use Rattle.cjc_shape_proof.specs.Written.Converted.{IsConverted}
-use Rattle.cjc_shape_proof.proofs.WrittenLaws.Files.{field_descs, own_unbroken, read_files}
+use Rattle.cjc_shape_proof.proofs.WrittenLaws.Files.{field_descs, own_names, read_files}
 use Rattle.cjc_theorem.proofs.AlikeLaws.MetLaws.Clean.{HasKnownTypes, own_types_known}
 use Rattle.cjc_theorem.proofs.AlikeLaws.MetLaws.Descs.{desc_known}
 use Rattle.cjc_theorem.proofs.AlikeLaws.MetLaws.LaidOut.{laid_out}
@@ -69,11 +69,11 @@ module _ (list : ListTree) (files : List (List ℕ)) (judged : Judged) (p : Pack
   -- a class of the package
   module _ (n : ℕ) (t : ClassTree) (e : (let v = p.files in slice_get v.classes n ≡ Some t)) where
     kept : HasKnownTypes w n t
-    kept = let u = own_unbroken list files judged p is in own_types_known list.name p.files u.listed u.world n t e
+    kept = let u = own_names list files judged p is in own_types_known list.name p.files u.listed u.world n t e
         (slice_get_within (let v = p.files in v.classes) n t e)
 
     named : class_named w t.name ≡ Some (declared n t)
-    named = let u = own_unbroken list files judged p is in class_by_name p.files list.name u.listed u.world n t e
+    named = let u = own_names list files judged p is in class_by_name p.files list.name u.listed u.world n t e
 
     pub field_known : (k : ℕ) (f : FieldTree) → slice_get t.fields k ≡ Some f → IsKnownDesc f.desc
     field_known k f g = let d = field_descs list files judged p is n k t f e g

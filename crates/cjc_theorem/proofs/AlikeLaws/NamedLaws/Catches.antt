@@ -7,8 +7,8 @@ use Rattle.std.specs.Str.{bytes_eq}
 use Rattle.std.proofs.lemmas.Option.{slice_get-map}
 use Rattle.std.proofs.lemmas.Slice.Eq.{bytes_eq-Decides}
 use Rattle.std.proofs.lemmas.Map.Keys.{any_passes_from_place}
+use Rattle.cjc_components.specs.Bytecode.declared.method_code.MethodCode.{MethodCode}
 use Rattle.cjc_components.specs.Package.{LaidMethod, Package, codes, pool, world}
-use Rattle.cjc_shape_proof.specs.LowerJudge.declared.judged.Judged.{Judged}
 use Rattle.cjc_token_proof.specs.Narrow.Keys.Index.{index_of}
 use Rattle.cjc_components.proofs.NarrowIndices.{needed}
 use Rattle.cjc_token_proof.specs.List.Listed.{ListTree}
@@ -26,8 +26,8 @@ use Rattle.cjc_world.specs.Classes.{Class, class_named}
 use Rattle.cjc_world.specs.Lookup.{object}
 use Rattle.cjc_theorem.proofs.AlikeLaws.NamedLaws.Means.{catch_held, catch_needed}
 use Rattle.cjc_theorem.proofs.AlikeLaws.NamedLaws.Sources.{has_catch}
-use Rattle.cjc_shape_proof.specs.Written.Converted.{IsConverted}
-use Rattle.cjc_shape_proof.proofs.WrittenLaws.Files.{own_unbroken}
+use Rattle.cjc_shape_proof.specs.Written.Checked.{IsOfFiles}
+use Rattle.cjc_shape_proof.proofs.WrittenLaws.Checked.{own_names}
 
 module _ (p : Package) (k : ℕ) (m : LaidMethod) (e : slice_get p.methods k ≡ Some m) (j : ℕ) (c : NCatch)
     (f : (let code = m.code in slice_get code.catches j ≡ Some c)) (name : List ℕ) (names : c.class ≡ Some name) where
@@ -75,8 +75,7 @@ module _ (p : Package) (k : ℕ) (m : LaidMethod) (e : slice_get p.methods k ≡
       by None i g h = cc
       by (Some q) i g h = (q, ap (λ o. unwrap_or o 0) h)
 
-module _ (list : ListTree) (files : List (List ℕ)) (judged : Judged) (p : Package) (is : IsConverted list files judged
-    p)
+module _ (list : ListTree) (codes : List MethodCode) (p : Package) (is : IsOfFiles list codes p)
     (classes : (x : List ℕ) (c : Class) → class_named (world p) x ≡ Some c → IsClass (naming p) x) where
   pub catches_fit : (k : ℕ) (m : LaidMethod) → slice_get p.methods k ≡ Some m → (j : ℕ) (c : NCatch)
       → (let code = m.code in slice_get code.catches j ≡ Some c) → Catches (naming p) c.class
@@ -86,11 +85,11 @@ module _ (list : ListTree) (files : List (List ℕ)) (judged : Judged) (p : Pack
           → Catches (naming p) (Some name)
       by_name name g true same = every ((bytes_eq-Decides name object).0 same) (at_first p k m e j c f name g same)
       by_name name g false apart =
-          let u = own_unbroken list files judged p is in
-          let s = has_catch list files judged p is k m e j c f in
+          let u = own_names list codes p is.checked in
+          let s = has_catch list codes p is k m e j c f in
           let h = s.handler in
           let caught : h.class ≡ Some name = s.same ∙ g in
-          let at = class_there (world p) name (caught_there p.files judged.codes u.names s.code _ s.method s.tree s.of
+          let at = class_there (world p) name (caught_there p.files codes u.names s.code _ s.method s.tree s.of
           s.listed h name s.there caught) in
           let index = behind_first p k m e j c f name g apart in
           one index.1 (catch_held p k m e j c f name g) (classes name at.0 at.1)

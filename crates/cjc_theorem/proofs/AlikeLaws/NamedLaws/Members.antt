@@ -3,6 +3,8 @@ use Rattle.std.proofs.Common.{◌≡◌, ℕ, ◌-◌, refl, sym, ap, ◌∙◌,
 use Rattle.std.specs.Prelude.{not, ◌&&◌, ◌||◌, Option, Some, None, is_some, option_and_then, option_map, slice_get}
 use Rattle.std.specs.Prelude.{if◌then◌else◌, ℤ}
 use Rattle.std.specs.List.{flat_map}
+use Rattle.cjc_shape_proof.proofs.WrittenLaws.Insns.{call_fits, op_fit, op_there}
+use Rattle.cjc_shape_proof.specs.Written.Checked.{KeepsNames}
 use Rattle.cjc_bytes.specs.AccessFlags.{is_static}
 use Rattle.cjc_bytes.specs.declared.fault.MemberId.{MemberId}
 use Rattle.cjc_bytes.specs.declared.settings.Settings.{Settings}
@@ -21,9 +23,8 @@ use Rattle.cjc_world.specs.ExportFile.declared.tree.ExportTree.{ExportTree}
 use Rattle.cjc_token_proof.specs.Narrow.Rows.Resolved.{by_owner, constant_named, resolved_field, resolved_method}
 use Rattle.cjc_shape_proof.proofs.FindsLaws.Fields.{tested, tested_field, on_object}
 use Rattle.cjc_narrow_proof.specs.Laws.Calls.{CallFits}
-use Rattle.cjc_narrow_proof.specs.Laws.Unbroken.{IsInsnOf, IsUnbroken}
-use Rattle.cjc_narrow_proof.proofs.LawsLaws.Calls.{called_fits}
-use Rattle.cjc_narrow_proof.proofs.LawsLaws.Instructions.{field_there, method_there, op_fit, op_there, static_there}
+use Rattle.cjc_narrow_proof.specs.Laws.Unbroken.{IsInsnOf}
+use Rattle.cjc_narrow_proof.proofs.LawsLaws.Instructions.{field_there, method_there, static_there}
 use Rattle.cjc_token_proof.specs.Subset.Checks.{is_imported_variable, names_variable}
 use Rattle.cjc_token_proof.specs.Subset.Members.{imported_field, imports, is_imported_constant}
 use Rattle.cjc_token_proof.specs.Subset.Members as subset
@@ -40,7 +41,7 @@ use Rattle.cjc_world.specs.Files.{Files}
 use Rattle.cjc_world.specs.Lookup.{find_field, find_method, member_at, own_method}
 use Rattle.cjc_theorem.proofs.WholeRuns.Statics.{on_class}
 
-module _ (list : List ℕ) (files : Files) (codes : List MethodCode) (settings : Settings) (is : IsUnbroken list files
+module _ (list : List ℕ) (files : Files) (codes : List MethodCode) (settings : Settings) (is : KeepsNames list files
     codes settings) (solid : IsSolid files) where
   abbrev w : List Class
   w = all_classes files
@@ -234,7 +235,10 @@ module _ (list : List ℕ) (files : Files) (codes : List MethodCode) (settings :
         again = own_found w solid.ordered d id.name id.desc f above.2 above.3;
         hit = hit;
         resolved = ap (λ o. by_owner id (option_and_then (method_hit w) o)) found ∙ ap (by_owner id) hit;
-        fits = called_fits list files codes settings is class op id at f (named_hit d m) found hit;
+        fits = call_fits op id.name m.flags (or_right (is_hidden w class id (tested_hit d m)) (is_unfit_call op id.name
+            m.flags) (or_left (is_hidden w class id (tested_hit d m) || is_unfit_call op id.name m.flags)
+            (is_unfit_class
+            w class op id (tested_hit d m)) fine));
         fits_class = or_right (is_hidden w class id (tested_hit d m) || is_unfit_call op id.name m.flags)
             (is_unfit_class w class op id (tested_hit d m)) fine;
         seen = or_left (is_hidden w class id (tested_hit d m)) (is_unfit_call op id.name m.flags)

@@ -8,6 +8,7 @@ use Rattle.cjc_bytes.proofs.Bools.{clash as true_not_false}
 use Rattle.cjc_jvm_semantics.specs.OnePackage.{is_constructor, is_initialiser, is_made, method_hit, object_fields}
 use Rattle.cjc_jvm_semantics.specs.OnePackage.{of_class}
 use Rattle.cjc_token_proof.proofs.WorldProofOwn.{IsAt, mapped_at}
+use Rattle.cjc_shape_proof.proofs.WrittenLaws.Insns.{cast_there, op_fit, op_there, test_there, virtual_there}
 use Rattle.cjc_shape_proof.specs.WorldProof.Calls.Solid.{IsSolid}
 use Rattle.cjc_token_proof.specs.CardSemantics.Machine.Operations.{static_cell}
 use Rattle.cjc_world.specs.ClassFile.declared.tree.ClassTree.{ClassTree}
@@ -22,16 +23,14 @@ use Rattle.cjc_components.specs.Package.{LaidMethod, Package, pool, world}
 use Rattle.cjc_components.specs.Statics.{cell_offset}
 use Rattle.cjc_world.specs.ExportFile.Members.{is_unbound}
 use Rattle.cjc_shape_proof.specs.LowerJudge.Rules.{settings_of}
-use Rattle.cjc_shape_proof.specs.LowerJudge.declared.judged.Judged.{Judged}
 use Rattle.cjc_token_proof.specs.List.Listed.{ListTree}
 use Rattle.cjc_ncode.specs.Lowering.Naming.{Fit, IsCell, IsClass, calls_special, calls_static}
 use Rattle.cjc_token_proof.specs.Narrow.Rows.Resolved.{method_found, resolution, resolved_field, resolved_method}
 use Rattle.cjc_token_proof.specs.Narrow.Rows.Resolved.{special_by}
 use Rattle.cjc_token_proof.specs.Narrow.Rows.Resolved.{virtual_by}
 use Rattle.cjc_token_proof.specs.Narrow.Rows.Selected.{near_fields}
-use Rattle.cjc_narrow_proof.specs.Laws.Unbroken.{IsInsnOf, IsUnbroken}
-use Rattle.cjc_narrow_proof.proofs.LawsLaws.Casts.{cast_there, test_there}
-use Rattle.cjc_narrow_proof.proofs.LawsLaws.Instructions.{array_of_class, new_fields, op_fit, op_there, virtual_there}
+use Rattle.cjc_narrow_proof.specs.Laws.Unbroken.{IsInsnOf}
+use Rattle.cjc_narrow_proof.proofs.LawsLaws.Instructions.{array_of_class, new_fields}
 use Rattle.cjc_narrow_proof.specs.Runs.Types as types
 use Rattle.cjc_narrow_proof.specs.Runs.Types.{IsThere}
 use Rattle.cjc_ncode.specs.declared.narrow.NInsn.{NInsn}
@@ -49,9 +48,9 @@ use Rattle.cjc_world.specs.Access.{is_accessible}
 use Rattle.cjc_world.specs.Classes.{Class, Member, class_named, declared, method_of_export}
 use Rattle.cjc_world.specs.Rules.{is_interface_of}
 use Rattle.cjc_world.proofs.Cycles.{class_named-name}
-use Rattle.cjc_shape_proof.specs.Written.Converted.{IsConverted}
-use Rattle.cjc_shape_proof.proofs.WrittenLaws.Files.{are_spelt, files_sound, own_unbroken, read_files}
-use Rattle.cjc_shape_proof.proofs.WrittenLaws.Worlds.{own_solid}
+use Rattle.cjc_shape_proof.specs.Written.Checked.{IsOfFiles, KeepsNames}
+use Rattle.cjc_shape_proof.proofs.WrittenLaws.Checked.{are_spelt, files_sound, own_names, read_files}
+use Rattle.cjc_shape_proof.proofs.WrittenLaws.Checked.{own_solid}
 use Rattle.cjc_theorem.specs.Alike.Opcodes.{CallsHaveOpcodes}
 use Rattle.cjc_theorem.proofs.AlikeLaws.NamedLaws.Abroad.{fixed_abroad}
 use Rattle.cjc_theorem.proofs.AlikeLaws.NamedLaws.Interfaces.{interface_open}
@@ -59,29 +58,25 @@ use Rattle.cjc_theorem.proofs.AlikeLaws.NamedLaws.Means.{class_fits, field_fits,
 use Rattle.cjc_theorem.proofs.AlikeLaws.NamedLaws.Means.{static_field_fits, super_fits, virtual_fits}
 use Rattle.cjc_theorem.proofs.AlikeLaws.NamedLaws.Members.{NamesMethod, field_named, method_named, static_named}
 use Rattle.cjc_theorem.proofs.AlikeLaws.NamedLaws.Members.{static_own}
-use Rattle.cjc_theorem.proofs.AlikeLaws.NamedLaws.Sources.{has_source, holder}
+use Rattle.cjc_theorem.proofs.AlikeLaws.NamedLaws.Sources.{HasSource, has_source, holder, no_source, of_insn}
 
-module _ (list : ListTree) (files : List (List ℕ)) (judged : Judged) (p : Package) (is : IsConverted list files judged
-    p) where
+module _ (list : ListTree) (codes : List MethodCode) (p : Package) (is : IsOfFiles list codes p) where
   abbrev w : List Class
   w = world p
 
-  abbrev codes : List MethodCode
-  codes = judged.codes
-
-  abbrev u : IsUnbroken list.name p.files judged.codes (settings_of list)
-  u = own_unbroken list files judged p is
+  abbrev u : KeepsNames list.name p.files codes (settings_of list)
+  u = own_names list codes p is.checked
 
   abbrev solid : IsSolid p.files
-  solid = own_solid list files judged p is
+  solid = own_solid list codes p is.checked
 
   -- what is called, as rules know it
   abbrev pub Calls_method : (class : ClassTree) (op : ℕ) (id : MemberId) → Type 0
-  Calls_method class op id = NamesMethod list.name p.files judged.codes (settings_of list) u solid class op id
+  Calls_method class op id = NamesMethod list.name p.files codes (settings_of list) u solid class op id
 
   pub called : (class : ClassTree) (op : ℕ) (id : MemberId) → IsInsnOf p.files codes class (jop.Call op id)
       → Calls_method class op id
-  called = method_named list.name p.files judged.codes (settings_of list) u solid
+  called = method_named list.name p.files codes (settings_of list) u solid
 
   -- a static method, a private one or a constructor is of a class that is no interface
   pub fixed_in_class : (class : ClassTree) (op : ℕ) (id : MemberId) (n : Calls_method class op id)
@@ -102,8 +97,8 @@ module _ (list : ListTree) (files : List (List ℕ)) (judged : Judged) (p : Pack
           ≡ false
       by false e = e
       by true e =
-          let open_one = interface_open list.name p.files judged.codes (settings_of list) u.checks solid
-          is.plain (let r = read_files list files judged p is in r.exports) n.owner n.named e (let a = n.at
+          let open_one = interface_open list.name p.files codes (settings_of list) u.checks solid
+          is.checked.plain (let r = read_files list codes p is.checked in r.exports) n.owner n.named e (let a = n.at
           in a.place) (let a = n.at in a.member) (let a = n.at in a.is_member) at_named in
           absurd (none (is_static (let a = n.at in let m = a.member in m.flags)) (is_private (let a = n.at
           in let m = a.member in m.flags)) (is_constructor id.name)
@@ -144,7 +139,7 @@ module _ (list : ListTree) (files : List (List ℕ)) (judged : Judged) (p : Pack
           let z = y.0 in
           ap (λ (v : Member). is_public v.flags) y.2
           ∙ not_public (is_private z.flags) (is_public z.flags) (is_protected z.flags)
-          ((let r = is.plain in r.visible) q t at i z y.1)
+          ((let r = is.checked.plain in r.visible) q t at i z y.1)
           (ap (λ (v : Member). is_private v.flags) (sym y.2) ∙ private)
 
       shut : (let d = n.owner in d.is_imported) ≡ true → is_public flags ≡ false
@@ -154,7 +149,7 @@ module _ (list : ListTree) (files : List (List ℕ)) (judged : Judged) (p : Pack
   -- what an invokevirtual finds through an imported class, and what it names itself, are of classes
   pub virtual_class : (class : ClassTree) (id : MemberId) (n : Calls_method class 0xB6 id)
       → (let c = n.named_class in is_interface c.flags) ≡ false
-  virtual_class class id n = ap is_interface_of (sym n.names_class) ∙ virtual_there list.name p.files judged.codes
+  virtual_class class id n = ap is_interface_of (sym n.names_class) ∙ virtual_there list.name p.files codes
       (settings_of list) u class id n.insn
 
   pub virtual_owner : (class : ClassTree) (id : MemberId) (n : Calls_method class 0xB6 id)
@@ -181,7 +176,7 @@ module _ (list : ListTree) (files : List (List ℕ)) (judged : Judged) (p : Pack
     cell_means : (f : MemberId) (c : Class) → class_named w f.class ≡ Some c → c.is_imported ≡ false
         → IsCell (naming p) f
     cell_means f c known own =
-        let h = info_of_name list.name p (files_sound list files judged p is) f.class c known own in
+        let h = info_of_name list.name p (files_sound list codes p is.checked) f.class c known own in
         let at = sym (ap (class_at p) (class_named-name w f.class c known)) ∙ h.on_card in
         ap (λ k. static_cell (loaded p) 0 (member_ref k (cell_offset p.image f) (field_token p f))) at
 
@@ -217,9 +212,11 @@ module _ (list : ListTree) (files : List (List ℕ)) (judged : Judged) (p : Pack
               has_desc = a.has_desc;
             } in
             method_fits (naming p) m
-            (calls_special (fixed_abroad list.name p (files_sound list files judged p is) true m n.owner n.place n.named
+            (calls_special (fixed_abroad list.name p (files_sound list codes p is.checked) true m n.owner n.place
+            n.named
             import no_interface n.again at plain_name bound))
-            (calls_static (fixed_abroad list.name p (files_sound list files judged p is) false m n.owner n.place n.named
+            (calls_static (fixed_abroad list.name p (files_sound list codes p is.checked) false m n.owner n.place
+            n.named
             import no_interface n.again at plain_name bound))
 
     -- ---- an instruction
@@ -230,7 +227,7 @@ module _ (list : ListTree) (files : List (List ℕ)) (judged : Judged) (p : Pack
       near = near_fields (pool p)
 
       abbrev class : ClassTree
-      class = let h = holder list files judged p is k m e_method in h.class
+      class = let h = holder list codes p is k m e_method in h.class
 
       -- names nothing
       nothing_fits : (i : NInsn) → names_nothing i ≡ true → NamesFit (naming p) i
@@ -359,7 +356,7 @@ module _ (list : ListTree) (files : List (List ℕ)) (judged : Judged) (p : Pack
           by false true e f = fixed_means class 0xB7 id n (fixed_in_class class 0xB7 id n (second (is_static flags)
               (is_private flags) (is_constructor id.name) f)) (inl (private_own class 0xB7 id n f))
           by false false e f =
-              let h = holder list files judged p is k m e_method in
+              let h = holder list codes p is k m e_method in
               super_fits (naming p) (of_class class.name id) (supers (of_class class.name id)
               (declared (let g = m.member in g.class) class) h.named h.no_interface)
 
@@ -434,15 +431,18 @@ module _ (list : ListTree) (files : List (List ℕ)) (judged : Judged) (p : Pack
           let c = class_of_array name of in
           named 0x91 (keys.Class name) same (class_fits (naming p) name (classes name c.0 c.1))
       by_source near opcodes op i of (sources.of_cast {name = name} {class = c} {op = o} {kind = number} names) same =
-          let there = cast_there list.name p.files codes (settings_of list) u (are_spelt list files judged p is) class
+          let there = cast_there list.name p.files codes (settings_of list) u (are_spelt list codes p is.checked) class
           name of in
           tested o number c same (class_of_type c (shape_named name) there.0 there.1 there.2 names)
       by_source near opcodes op i of (sources.of_test {name = name} {class = c} {op = o} {kind = number} names) same =
-          let there = test_there list.name p.files codes (settings_of list) u (are_spelt list files judged p is) class
+          let there = test_there list.name p.files codes (settings_of list) u (are_spelt list codes p is.checked) class
           name of in
           tested o number c same (class_of_type c (shape_named name) there.0 there.1 there.2 names)
 
       pub names_fit : CallsHaveOpcodes codes → NamesFit (naming p) insn
       names_fit opcodes =
-          let s = has_source list files judged p is k m e_method j insn f in
-          by_source near opcodes s.op insn s.of s.written refl
+          by (has_source list codes p is k m e_method j insn f)
+        where
+          by : HasSource p.files codes near class insn → NamesFit (naming p) insn
+          by (no_source none) = nothing_fits insn none
+          by (of_insn op of written) = by_source near opcodes op insn of written refl

@@ -10,8 +10,8 @@ use Rattle.cjc_token_proof.proofs.WorldProofOwn.{hit_is, own_at}
 use Rattle.cjc_shape_proof.specs.WorldProof.Calls.Solid.{IsSolid}
 use Rattle.cjc_token_proof.specs.Calls.Selecting.{signature}
 use Rattle.cjc_world.specs.ClassFile.declared.tree.ClassTree.{ClassTree}
+use Rattle.cjc_components.specs.Bytecode.declared.method_code.MethodCode.{MethodCode}
 use Rattle.cjc_components.specs.Package.{Package, world}
-use Rattle.cjc_shape_proof.specs.LowerJudge.declared.judged.Judged.{Judged}
 use Rattle.cjc_token_proof.specs.List.Listed.{ListTree}
 use Rattle.cjc_theorem.proofs.AlikeLaws.NamedLaws.Names.{Calls_method}
 use Rattle.cjc_tokens.specs.Members.{chosen, is_exposed, is_initialiser, is_virtual, signature_of}
@@ -25,8 +25,8 @@ use Rattle.cjc_world.specs.Classes.{Class, Member}
 use Rattle.cjc_world.specs.Interfaces.{gathered, known}
 use Rattle.cjc_world.specs.Supertypes.{supertypes, line}
 use Rattle.cjc_world.specs.Lookup.{find_method, first, is_selectable, member_at, or_else, own_method}
-use Rattle.cjc_shape_proof.proofs.WrittenLaws.Worlds.{own_solid}
-use Rattle.cjc_shape_proof.specs.Written.Converted.{IsConverted}
+use Rattle.cjc_shape_proof.proofs.WrittenLaws.Checked.{own_solid}
+use Rattle.cjc_shape_proof.specs.Written.Checked.{IsOfFiles}
 use Rattle.cjc_theorem.proofs.AlikeLaws.VirtualCalls.Chosen.{any_selects, first_found, own_first}
 use Rattle.cjc_theorem.proofs.AlikeLaws.VirtualCalls.Lines.{HasHidden, HasShown}
 use Rattle.cjc_theorem.proofs.AlikeLaws.VirtualCalls.Ways.{line_class}
@@ -41,8 +41,8 @@ first_there c f s i m e is j n g has =
     let both : Some n ≡ Some m = sym g ∙ ap (slice_get c.methods) same ∙ e in
     cc
 
-module _ (list : ListTree) (files : List (List ℕ)) (judged : Judged) (p : Package) (is : IsConverted list files judged
-    p) (class : ClassTree) (op : ℕ) (id : MemberId) (n : Calls_method list files judged p is class op id) where
+module _ (list : ListTree) (codes : List MethodCode) (p : Package) (is : IsOfFiles list codes p) (class : ClassTree)
+    (op : ℕ) (id : MemberId) (n : Calls_method list codes p is class op id) where
   abbrev w : List Class
   w = world p
 
@@ -67,10 +67,10 @@ module _ (list : ListTree) (files : List (List ℕ)) (judged : Judged) (p : Pack
   none_on_line plain interface = by (first (own_method false id.name id.desc) (line w id.class)) refl n.found
     where
       solid : IsSolid p.files
-      solid = own_solid list files judged p is
+      solid = own_solid list codes p is.checked
 
       ordered : IsOrdered w
-      ordered = (let s = own_solid list files judged p is in s.ordered)
+      ordered = (let s = own_solid list codes p is.checked in s.ordered)
 
       by : (o : Option Found) → first (own_method false id.name id.desc) (line w id.class) ≡ o
           → or_else o (first (own_method false id.name id.desc) (known (gathered false (supertypes w (id.class ∷ [])))))

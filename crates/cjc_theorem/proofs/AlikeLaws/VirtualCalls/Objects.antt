@@ -10,14 +10,14 @@ use Rattle.cjc_token_proof.proofs.WorldProofTypes.{below_type, receiver_class}
 use Rattle.cjc_shape_proof.specs.WorldProof.Calls.Solid.{IsSolid}
 use Rattle.cjc_token_proof.specs.Calls.Selecting.{signature}
 use Rattle.cjc_world.specs.ClassFile.declared.tree.ClassTree.{ClassTree}
+use Rattle.cjc_components.specs.Bytecode.declared.method_code.MethodCode.{MethodCode}
 use Rattle.cjc_components.specs.Bytecode.declared.insn.JOp.TheVariants as jop
 use Rattle.cjc_components.specs.Package.{Package, world}
 use Rattle.cjc_shape_proof.specs.LowerJudge.Rules.{settings_of}
-use Rattle.cjc_shape_proof.specs.LowerJudge.declared.judged.Judged.{Judged}
 use Rattle.cjc_token_proof.specs.List.Listed.{ListTree}
 use Rattle.cjc_theorem.proofs.AlikeLaws.NamedLaws.Names.{Calls_method, called, virtual_class, virtual_owner}
 use Rattle.cjc_token_proof.specs.Narrow.Rows.Resolved.{resolved_method, virtual_by}
-use Rattle.cjc_narrow_proof.specs.Laws.Unbroken.{IsInsnOf, IsUnbroken}
+use Rattle.cjc_narrow_proof.specs.Laws.Unbroken.{IsInsnOf}
 use Rattle.cjc_ncode.specs.ByLabel.{OnObject}
 use Rattle.cjc_vtable.specs.Meant.{AskedHaveTokens}
 use Rattle.cjc_tokens.specs.Lines.{line_of}
@@ -38,9 +38,9 @@ use Rattle.cjc_world.specs.Supertypes.{AreSupertypes, Supertypes, supertypes, li
 use Rattle.cjc_world.specs.Lookup.{own_method}
 use Rattle.cjc_world.specs.Subtype.{is_subtype}
 use Rattle.cjc_token_proof.specs.WrittenCalls.Calls.{IsNamed, IsSought, got, hidden, on_object}
-use Rattle.cjc_shape_proof.proofs.WrittenLaws.Files.{own_unbroken, read_files}
-use Rattle.cjc_shape_proof.proofs.WrittenLaws.Worlds.{own_solid, own_subtypes}
-use Rattle.cjc_shape_proof.specs.Written.Converted.{IsConverted}
+use Rattle.cjc_shape_proof.proofs.WrittenLaws.Checked.{own_names, read_files}
+use Rattle.cjc_shape_proof.proofs.WrittenLaws.Checked.{own_solid, own_subtypes}
+use Rattle.cjc_shape_proof.specs.Written.Checked.{IsOfFiles, KeepsNames}
 use Rattle.cjc_theorem.proofs.AlikeLaws.VirtualCalls.Chosen.{first_found, own_any}
 use Rattle.cjc_theorem.proofs.AlikeLaws.VirtualCalls.Found.{called_signature, none_on_line, stands_there}
 use Rattle.cjc_theorem.proofs.AlikeLaws.VirtualCalls.MethodKinds.{keeps_kinds}
@@ -54,8 +54,7 @@ among_get i [] a = elim a [ ]
 among_get i (c ∷ is) at_head = (0, refl)
 among_get i (c ∷ is) (further a) = let r = among_get i is a in (suc r.0, r.1)
 
-module _ (list : ListTree) (files : List (List ℕ)) (judged : Judged) (p : Package) (is : IsConverted list files judged
-    p)
+module _ (list : ListTree) (codes : List MethodCode) (p : Package) (is : IsOfFiles list codes p)
     (are_supertypes : (xs : List (List ℕ)) → AreSupertypes (world p) xs (supertypes (world p) xs)) (one_supertypes :
     (xs : List (List ℕ)) (j k : Supertypes) → AreSupertypes (world p) xs j → AreSupertypes (world p) xs k
     → j ≡ k) (keeps : Keeps (world p)) where
@@ -65,17 +64,17 @@ module _ (list : ListTree) (files : List (List ℕ)) (judged : Judged) (p : Pack
   abbrev rules : KeepsRules w
   rules = keeps.rules
 
-  abbrev u : IsUnbroken list.name p.files judged.codes (settings_of list)
-  u = own_unbroken list files judged p is
+  abbrev u : KeepsNames list.name p.files codes (settings_of list)
+  u = own_names list codes p is.checked
 
   abbrev solid : IsSolid p.files
-  solid = own_solid list files judged p is
+  solid = own_solid list codes p is.checked
 
   abbrev ordered : IsOrdered w
-  ordered = (let s = own_solid list files judged p is in s.ordered)
+  ordered = (let s = own_solid list codes p is.checked in s.ordered)
 
   pub own_kinds : KeepsKinds w
-  own_kinds = keeps_kinds list.name p.files judged.codes (settings_of list) (let q = u in q.checks) (let o = ordered
+  own_kinds = keeps_kinds list.name p.files codes (settings_of list) (let q = u in q.checks) (let o = ordered
       in o.acyclic)
 
   -- what stands at or above a class that is no interface is sought
@@ -99,13 +98,13 @@ module _ (list : ListTree) (files : List (List ℕ)) (judged : Judged) (p : Pack
       × (slice_get (interface_methods w c) t ≡ Some (signature_of m))
 
   module _ (asked : AskedHaveTokens w) (listed_methods : ListsMethods) (class : ClassTree) (id : MemberId)
-      (n : Calls_method list files judged p is class 0xB6 id) (own : (let c = n.named_class in c.is_imported) ≡ false)
+      (n : Calls_method list codes p is class 0xB6 id) (own : (let c = n.named_class in c.is_imported) ≡ false)
       (interface : (let d = n.owner in is_interface d.flags) ≡ true) where
     abbrev s : Signature
     s = signature id
 
     plain_class : (let c = n.named_class in is_interface c.flags) ≡ false
-    plain_class = virtual_class list files judged p is class id n
+    plain_class = virtual_class list codes p is class id n
 
     plain_name : is_special s ≡ false
     plain_name = let f = n.fits in either (is_constructor id.name) (is_initialiser id.name) (f.no_constructor refl)
@@ -122,16 +121,16 @@ module _ (list : ListTree) (files : List (List ℕ)) (judged : Judged) (p : Pack
         let a = n.at in
         let f = n.fits in
         let m = a.member in
-        let r = has_place p.files (let q = read_files list files judged p is in q.exports) listed_methods
+        let r = has_place p.files (let q = read_files list codes p is.checked in q.exports) listed_methods
         (let d = n.owner in d.name) n.owner n.named interface a.place m a.is_member (ap is_initialiser a.has_name
         ∙ f.no_initialiser) in
-        (r.0, r.1 ∙ ap Some (called_signature list files judged p is class 0xB6 id n))
+        (r.0, r.1 ∙ ap Some (called_signature list codes p is class 0xB6 id n))
 
     -- the interface among those of a class below the named one
     listed : (x : List ℕ) (c : Class) → class_named w x ≡ Some c → is_interface c.flags ≡ false → Below w x id.class
         → Among n.owner (known (interfaces_at w c))
     listed x c e plain way =
-        let subtypes = own_subtypes list files judged p is in
+        let subtypes = own_subtypes list codes p is.checked in
         named-among (known (interfaces_at w c)) (let d = n.owner in d.name) n.owner
         (subtypes.implements x (let d = n.owner in d.name) c n.owner e plain n.named interface (of_above x c n.owner e
         n.named (below_on w x id.class (let d = n.owner in d.name) way n.below)))
@@ -170,7 +169,7 @@ module _ (list : ListTree) (files : List (List ℕ)) (judged : Judged) (p : Pack
         let g = own_any s r.class f r.own in
         let q = line_finds w ordered (own_method false id.name id.desc) id.class r.class g.0 (of_line w (let o = ordered
         in o.acyclic) id.class r.class r.among) g.1 in
-        let clash : Some q.0 ≡ None = sym q.1 ∙ none_on_line list files judged p is class 0xB6 id n plain_class
+        let clash : Some q.0 ≡ None = sym q.1 ∙ none_on_line list codes p is class 0xB6 id n plain_class
         interface in
         absurd cc
 
@@ -203,13 +202,13 @@ module _ (list : ListTree) (files : List (List ℕ)) (judged : Judged) (p : Pack
   -- ---- all
 
   module _ (asked : AskedHaveTokens w) (listed_methods : ListsMethods) (class : ClassTree) (id : MemberId)
-      (of : IsInsnOf p.files judged.codes class (jop.Call 0xB6 id)) where
-    abbrev n : Calls_method list files judged p is class 0xB6 id
-    n = called list files judged p is class 0xB6 id of
+      (of : IsInsnOf p.files codes class (jop.Call 0xB6 id)) where
+    abbrev n : Calls_method list codes p is class 0xB6 id
+    n = called list codes p is class 0xB6 id of
 
     there : (x : List ℕ) → OnLine w x (let c = n in c.owner) → HasShown w x (signature id)
         ⊎ HasHidden w x (signature id)
-    there x on = let c = n in let f = c.fits in stands_there list files judged p is class 0xB6 id n
+    there x on = let c = n in let f = c.fits in stands_there list codes p is class 0xB6 id n
         (f.selectable refl refl) (f.no_constructor refl) x on
 
     virtual_sought : (let c = n in let k = c.named_class in k.is_imported) ≡ false → IsSought w id
@@ -217,9 +216,9 @@ module _ (list : ListTree) (files : List (List ℕ)) (judged : Judged) (p : Pack
       where
         by : (b : Bool) → (let c = n in let d = c.owner in is_interface d.flags) ≡ b → IsSought w id
         by true e = interface_sought asked listed_methods class id n own e
-        by false e = let v = n in sought_there id v.named_class v.names_class (virtual_class list files judged p is
+        by false e = let v = n in sought_there id v.named_class v.names_class (virtual_class list codes p is
             class id n) (there id.class (let c = n in on_line w ordered id.class (let d = c.owner
-            in d.name) c.named_class c.owner c.below c.names_class (virtual_class list files judged p is class id n)
+            in d.name) c.named_class c.owner c.below c.names_class (virtual_class list codes p is class id n)
             c.named e))
 
     pub virtual_named : IsNamed w (OnObject (virtual_by w id (class_named w id.class)))
@@ -232,11 +231,11 @@ module _ (list : ListTree) (files : List (List ℕ)) (judged : Judged) (p : Pack
             let c = n in
             let f = c.fits in
             let q = of_class (let d = c.owner in d.name) id in
-            subst (λ m. IsNamed w (OnObject m)) (sym c.resolved) (on_object c.owner c.named (virtual_owner list files
-            judged p is class id n import) f.no_initialiser (sought_there q c.owner c.named
-            (virtual_owner list files judged p is class id n import) (there q.class (here c.named))))
+            subst (λ m. IsNamed w (OnObject m)) (sym c.resolved) (on_object c.owner c.named (virtual_owner list codes p
+            is class id n import) f.no_initialiser (sought_there q c.owner c.named
+            (virtual_owner list codes p is class id n import) (there q.class (here c.named))))
         by false own =
             let c = n in
             let f = c.fits in
-            on_object c.named_class c.names_class (virtual_class list files judged p is class id n) f.no_initialiser
+            on_object c.named_class c.names_class (virtual_class list codes p is class id n) f.no_initialiser
             (virtual_sought own)

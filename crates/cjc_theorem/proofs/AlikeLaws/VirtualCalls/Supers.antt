@@ -11,14 +11,14 @@ use Rattle.cjc_shape_proof.specs.WorldProof.Calls.Solid.{IsSolid}
 use Rattle.cjc_token_proof.proofs.WorldProofTypes.{receiver_class}
 use Rattle.cjc_token_proof.specs.Calls.Selecting.{signature}
 use Rattle.cjc_world.specs.ClassFile.declared.tree.ClassTree.{ClassTree}
+use Rattle.cjc_components.specs.Bytecode.declared.method_code.MethodCode.{MethodCode}
 use Rattle.cjc_components.specs.Bytecode.declared.insn.JOp.TheVariants as jop
 use Rattle.cjc_components.specs.Package.{Package, world}
 use Rattle.cjc_shape_proof.specs.LowerJudge.Rules.{settings_of}
-use Rattle.cjc_shape_proof.specs.LowerJudge.declared.judged.Judged.{Judged}
 use Rattle.cjc_token_proof.specs.List.Listed.{ListTree}
 use Rattle.cjc_theorem.proofs.AlikeLaws.NamedLaws.Names.{Calls_method, called}
 use Rattle.cjc_token_proof.specs.Narrow.Rows.Resolved.{method_found}
-use Rattle.cjc_narrow_proof.specs.Laws.Unbroken.{IsInsnOf, IsUnbroken}
+use Rattle.cjc_narrow_proof.specs.Laws.Unbroken.{IsInsnOf}
 use Rattle.cjc_narrow_proof.proofs.LawsLaws.Own.{class_by_name, first_here, own_kept}
 use Rattle.cjc_ncode.specs.ByLabel.{OnSuper}
 use Rattle.cjc_token_proof.specs.Subset.Members as subset
@@ -49,9 +49,9 @@ use Rattle.cjc_world.specs.Rules.{is_earlier, is_twice}
 use Rattle.cjc_world.proofs.Cycles.{class_named-name}
 use Rattle.cjc_world.proofs.Upwards.{line_goes_up}
 use Rattle.cjc_token_proof.specs.WrittenCalls.Calls.{IsNamed, on_super}
-use Rattle.cjc_shape_proof.proofs.WrittenLaws.Files.{own_unbroken, read_files}
-use Rattle.cjc_shape_proof.proofs.WrittenLaws.Worlds.{own_solid, own_subtypes}
-use Rattle.cjc_shape_proof.specs.Written.Converted.{IsConverted}
+use Rattle.cjc_shape_proof.proofs.WrittenLaws.Checked.{own_names, read_files}
+use Rattle.cjc_shape_proof.proofs.WrittenLaws.Checked.{own_solid, own_subtypes}
+use Rattle.cjc_shape_proof.specs.Written.Checked.{IsOfFiles, KeepsNames}
 use Rattle.cjc_theorem.proofs.AlikeLaws.VirtualCalls.Chosen.{IsFirstOf, any_selects, first_found, has_methods}
 use Rattle.cjc_theorem.proofs.AlikeLaws.VirtualCalls.Chosen.{placed as place_of}
 use Rattle.cjc_theorem.proofs.AlikeLaws.VirtualCalls.Found.{stands_there}
@@ -78,26 +78,25 @@ chosen_some w super id same_name (Some f) g e = (
       (sym same_name) ∙ g,
 )
 
-module _ (list : ListTree) (files : List (List ℕ)) (judged : Judged) (p : Package) (is : IsConverted list files judged
-    p)
+module _ (list : ListTree) (codes : List MethodCode) (p : Package) (is : IsOfFiles list codes p)
     (are_supertypes : (xs : List (List ℕ)) → AreSupertypes (world p) xs (supertypes (world p) xs)) (one_supertypes :
     (xs : List (List ℕ)) (j k : Supertypes) → AreSupertypes (world p) xs j → AreSupertypes (world p) xs k
     → j ≡ k) (keeps : Keeps (world p)) (asked : AskedHaveTokens (world p))
-    (listed_methods : ListsMethods list files judged p is are_supertypes one_supertypes keeps) where
+    (listed_methods : ListsMethods list codes p is are_supertypes one_supertypes keeps) where
   abbrev w : List Class
   w = world p
 
   abbrev rules : KeepsRules w
   rules = keeps.rules
 
-  abbrev u : IsUnbroken list.name p.files judged.codes (settings_of list)
-  u = own_unbroken list files judged p is
+  abbrev u : KeepsNames list.name p.files codes (settings_of list)
+  u = own_names list codes p is.checked
 
   abbrev solid : IsSolid p.files
-  solid = own_solid list files judged p is
+  solid = own_solid list codes p is.checked
 
   abbrev ordered : IsOrdered w
-  ordered = (let s = own_solid list files judged p is in s.ordered)
+  ordered = (let s = own_solid list codes p is.checked in s.ordered)
 
   -- a method of a class of the package is the first of its signature there (202)
   first_own : (c : Class) → class_named w c.name ≡ Some c → c.is_imported ≡ false → (k : ℕ) (m : Member)
@@ -122,14 +121,14 @@ module _ (list : ListTree) (files : List (List ℕ)) (judged : Judged) (p : Pack
           let one : r.0 ≡ m = cc in
           r.1 ∙ ap Some one
 
-  module _ (class : ClassTree) (id : MemberId) (of : IsInsnOf p.files judged.codes class (jop.Call 0xB7 id))
+  module _ (class : ClassTree) (id : MemberId) (of : IsInsnOf p.files codes class (jop.Call 0xB7 id))
       (class_here : is_interface class.flags ≡ false) (no_constructor : is_constructor id.name ≡ false)
       (hit : ResolvedMember) (is_hit : method_found w id ≡ Some hit) (visible : is_private hit.flags ≡ false) where
     abbrev s : Signature
     s = signature id
 
-    abbrev n : Calls_method list files judged p is class 0xB7 id
-    n = called list files judged p is class 0xB7 id of
+    abbrev n : Calls_method list codes p is class 0xB7 id
+    n = called list codes p is class 0xB7 id of
 
     abbrev flags : ℕ
     flags = (let c = n in let a = c.at in let m = a.member in m.flags)
@@ -257,10 +256,10 @@ module _ (list : ListTree) (files : List (List ℕ)) (judged : Judged) (p : Pack
           let c = n in
           let a = c.at in
           let g = c.fits in
-          let r = has_place p.files (let q = read_files list files judged p is in q.exports) listed_methods
+          let r = has_place p.files (let q = read_files list codes p is.checked in q.exports) listed_methods
           (let o = c.owner in o.name) c.owner c.named interface a.place a.member a.is_member (ap is_initialiser
           a.has_name ∙ g.no_initialiser) in
-          (r.0, r.1 ∙ ap Some (found.called_signature list files judged p is class 0xB7 id c))
+          (r.0, r.1 ∙ ap Some (found.called_signature list codes p is class 0xB7 id c))
 
       -- the interface is one of those of the class that holds the code
       has_interface : (j : ℕ) × (slice_get (known_interfaces (interfaces_at w (declared number class))) j
@@ -269,7 +268,7 @@ module _ (list : ListTree) (files : List (List ℕ)) (judged : Judged) (p : Pack
           let c = n in
           let o = c.owner in
           let k = c.named_class in
-          let subtypes = own_subtypes list files judged p is in
+          let subtypes = own_subtypes list codes p is.checked in
           let above : Below w super o.name = below_on w super id.class o.name (subst (Below w super) (class_named-name w
           id.class k c.names_class) (line_below w super k named_on)) c.below in
           let way : Below w class.name o.name = below_on w class.name super o.name (under_below w class.name super
@@ -277,7 +276,7 @@ module _ (list : ListTree) (files : List (List ℕ)) (judged : Judged) (p : Pack
           among_get o (known_interfaces (interfaces_at w (declared number class)))
           (named-among (known_interfaces (interfaces_at w (declared number class))) o.name o
           (subtypes.implements class.name o.name (declared number class) o holder class_here c.named interface
-          (of_above list files judged p is are_supertypes one_supertypes keeps class.name (declared number class) o
+          (of_above list codes p is are_supertypes one_supertypes keeps class.name (declared number class) o
           holder c.named way)))
 
       -- so a class that has the code has a slot for it
@@ -354,7 +353,7 @@ module _ (list : ListTree) (files : List (List ℕ)) (judged : Judged) (p : Pack
         unfolding line
         shown_there = ⊎_elim
             (λ h. listed h.0 h.1 h.2 h.3)
-            (λ g. absurd (gets_none list.name p.files judged.codes (settings_of list) (let q = u in q.checks)
+            (λ g. absurd (gets_none list.name p.files codes (settings_of list) (let q = u in q.checks)
             (let o = ordered in o.acyclic) g.class d m s g.named g.own known import
             (far_above w ordered rules class.name g.class d g.on g.named g.own (up (declared number class) holder
             foremost on) import) g.given (chosen-In selects s d.methods m first_one) kept.0 hidden_one shut))
@@ -406,14 +405,14 @@ module _ (list : ListTree) (files : List (List ℕ)) (judged : Judged) (p : Pack
             c.below c.names_class named_class_plain c.named e in
             let far = line_on w super k c.owner named_on (subst (λ y. OnLine w y c.owner)
             (sym (class_named-name w id.class k c.names_class)) way) in
-            stands_there list files judged p is class 0xB7 id n selectable no_constructor super far
+            stands_there list codes p is class 0xB7 id n selectable no_constructor super far
 
     alike : HasShown w super s ⊎ HasHidden w super s → finds_hidden (line_of w class.name) s
         ≡ finds_hidden (line_of w super) s
     alike h = ⊎_elim
         (λ a. shown_alone w are_supertypes one_supertypes rules class.name s (shown_below w class.name super s under a)
         ∙ sym (shown_alone w are_supertypes one_supertypes rules super s a))
-        (λ a. (let kinds = own_kinds list files judged p is are_supertypes one_supertypes keeps
+        (λ a. (let kinds = own_kinds list codes p is are_supertypes one_supertypes keeps
         in hidden_found w are_supertypes one_supertypes rules kinds class.name s (hidden_below w class.name super s
         under a) ∙ sym (hidden_found w are_supertypes one_supertypes rules kinds super s a)))
         h
@@ -423,5 +422,5 @@ module _ (list : ListTree) (files : List (List ℕ)) (judged : Judged) (p : Pack
         let c = n in
         let f = c.fits in
         on_super (declared number class) super_there.0 super holder refl class_here refl super_there.1 f.no_initialiser
-        (sought_there list files judged p is are_supertypes one_supertypes keeps (of_class super id) super_there.0
+        (sought_there list codes p is are_supertypes one_supertypes keeps (of_class super id) super_there.0
         super_there.1 super_class there) (alike there)

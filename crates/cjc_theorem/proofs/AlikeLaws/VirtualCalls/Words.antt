@@ -6,11 +6,11 @@ use Rattle.cjc_bytes.specs.declared.fault.MemberId.{MemberId}
 use Rattle.cjc_jvm_semantics.specs.OnePackage.{ResolvedMember, of_class}
 use Rattle.cjc_token_proof.proofs.WorldProofOwn.{mapped_at}
 use Rattle.cjc_world.specs.ClassFile.declared.tree.ClassTree.{ClassTree}
+use Rattle.cjc_components.specs.Bytecode.declared.method_code.MethodCode.{MethodCode}
 use Rattle.cjc_components.specs.Bytecode.declared.insn.JOp.TheVariants as jop
 use Rattle.cjc_components.specs.Package.{Package, world}
 use Rattle.cjc_shape_proof.specs.LowerCheckProof.Exports.{ExportsHaveOneAccess}
 use Rattle.cjc_theorem.proofs.AlikeLaws.InterfaceCalls.Words.{called_signature}
-use Rattle.cjc_shape_proof.specs.LowerJudge.declared.judged.Judged.{Judged}
 use Rattle.cjc_token_proof.specs.List.Listed.{ListTree}
 use Rattle.cjc_token_proof.specs.Narrow.Rows.Resolved.{by_owner, resolved_method, virtual_by}
 use Rattle.cjc_narrow_proof.specs.Laws.Unbroken.{IsInsnOf}
@@ -20,7 +20,8 @@ use Rattle.cjc_tokens.specs.Members.{In, is_exposed}
 use Rattle.cjc_vtable.proofs.Filed.{IsFiled, filed, in_class_file, in_export_file}
 use Rattle.cjc_world.specs.Classes.{Class, Member, class_named, method_of_export}
 use Rattle.cjc_token_proof.specs.WrittenCalls.Calls.{TakesWords, super_words, virtual_words}
-use Rattle.cjc_shape_proof.specs.Written.Converted.{ExportsArePlain, IsConverted}
+use Rattle.cjc_shape_proof.specs.Written.Checked.{IsOfFiles}
+use Rattle.cjc_shape_proof.specs.Written.Converted.{ExportsArePlain}
 use Rattle.cjc_theorem.proofs.AlikeLaws.VirtualCalls.MethodKinds.{in_get}
 
 apart : (a b : Bool) → (a && b) ≡ false → b ≡ true → a ≡ false
@@ -42,8 +43,8 @@ exports_have_one_access p plain x c m e import i shown = by c (filed p.files x c
         ∙ apart (is_private q.flags) (is_exposed q.flags) (plain.visible n t at k.0 q y.1)
         (ap (λ (v : Member). is_exposed v.flags) (sym y.2) ∙ shown)
 
-module _ (list : ListTree) (files : List (List ℕ)) (judged : Judged) (p : Package) (is : IsConverted list files judged
-    p) (class : ClassTree) (id : MemberId) where
+module _ (list : ListTree) (codes : List MethodCode) (p : Package) (is : IsOfFiles list codes p) (class : ClassTree)
+    (id : MemberId) where
   owner_desc : (o : Option ResolvedMember) → (by_owner id o).desc ≡ id.desc
   owner_desc None = refl
   owner_desc (Some hit) = refl
@@ -56,11 +57,11 @@ module _ (list : ListTree) (files : List (List ℕ)) (judged : Judged) (p : Pack
       by true = owner_desc _
       by false = refl
 
-  pub virtual_takes : IsInsnOf p.files judged.codes class (jop.Call 0xB6 id)
+  pub virtual_takes : IsInsnOf p.files codes class (jop.Call 0xB6 id)
       → TakesWords (world p) (OnObject (virtual_by (world p) id (class_named (world p) id.class)))
-  virtual_takes of = let s = called_signature list files judged p is class id 0xB6 of in virtual_words s.0
+  virtual_takes of = let s = called_signature list codes p is class id 0xB6 of in virtual_words s.0
       (ap signature_of (key_desc (class_named (world p) id.class)) ∙ s.1)
 
-  pub super_takes : IsInsnOf p.files judged.codes class (jop.Call 0xB7 id)
+  pub super_takes : IsInsnOf p.files codes class (jop.Call 0xB7 id)
       → TakesWords (world p) (OnSuper (of_class class.name id))
-  super_takes of = let s = called_signature list files judged p is class id 0xB7 of in super_words s.0 s.1
+  super_takes of = let s = called_signature list codes p is class id 0xB7 of in super_words s.0 s.1

@@ -3,8 +3,8 @@ use Rattle.cjc_theorem.proofs.alike.interface_calls.interface_calls_are_named.Go
 use Rattle.cjc_token_proof.specs.WrittenCalls.Calls.{interface_words}
 
 pub returns-clause-named : goal.returns-clause-named
-returns-clause-named c = λ list files judged p is class id of words. interface_named list files judged p is class id
+returns-clause-named c = λ list codes p is class id of words. interface_named list codes p is class id
     of words
 
 pub returns-clause-words : goal.returns-clause-words
-returns-clause-words c = λ list files judged p is class id of words. interface_words
+returns-clause-words c = λ list codes p is class id of words. interface_words

@@ -6,6 +6,7 @@ use Rattle.cjc_theorem.proofs.AlikeLaws.MetLaws.KeySources.{key_met}
 use Rattle.cjc_theorem.proofs.AlikeLaws.MetLaws.There.{key_there}
 use Rattle.cjc_theorem.proofs.alike.met_laws.members_are_there.Goals as goal
 use Rattle.cjc_token_proof.specs.Tables.Known.{statics_of}
+use Rattle.cjc_shape_proof.proofs.WrittenLaws.OfFiles.{is_of_files}
 use Rattle.cjc_shape_proof.specs.LowerCheckProof.Keys.{IsThere}
 use Rattle.cjc_vtable.proofs.Filed.{has-get}
 
@@ -19,7 +20,8 @@ returns c = λ list files judged p is.
     (laid_out list files judged p is)) in
     let opcodes = c.calls_have_opcodes.ensures list files judged is.sound in
     each_of (IsThere p) (pool p) (λ key h. let at = has-get key (pool p) h in key_there list files judged p is told fit
-    (λ class id of. c.virtual_calls_are_named.ensures.named list files judged p is class id of)
-    (λ class id of plain no_constructor hit found open_one. c.super_calls_are_named.ensures.named list files judged p is
-    class id of plain no_constructor hit found open_one)
+    (λ class id of. c.virtual_calls_are_named.ensures.named list judged.codes p (is_of_files list
+    files judged p is) class id of)
+    (λ class id of plain no_constructor hit found open_one. c.super_calls_are_named.ensures.named list
+    judged.codes p (is_of_files list files judged p is) class id of plain no_constructor hit found open_one)
     key (key_met list files judged p is opcodes at.0 key at.1))
