@@ -1,0 +1,5 @@
+mod FolderLaws
+mod LengthsLaws
+mod PairedLaws
+mod ReadsLaws
+mod UnbrokenLaws
