@@ -155,7 +155,7 @@ two : (a b : Bool) → (a && b) ≡ true → (a ≡ true) × (b ≡ true)
 two true b e = (refl, e)
 two false b e = absurd cc
 
-word_sorts : (ref : List ℕ → ClassRef) (ss : List Sort) → list_all is_card_sort ss ≡ true
+pub word_sorts : (ref : List ℕ → ClassRef) (ss : List Sort) → list_all is_card_sort ss ≡ true
     → widths (map (type_for ref) ss) ≡ sorts.widths ss
 word_sorts ref [] e = refl
 word_sorts ref (s ∷ ss) e =

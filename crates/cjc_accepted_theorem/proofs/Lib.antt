@@ -14,3 +14,11 @@ mod ConcreteLaws
 mod OutwardLaws
 mod AbstractLaws
 mod NoAbstractLaws
+mod TypedLaws
+mod PassedLaws
+mod MembersLaws
+mod SentLaws
+mod ServedLaws
+mod FixedLaws
+mod ThrownLaws
+mod InterfaceLaws

@@ -82,25 +82,30 @@ module _ (p : Package) where
   abbrev pub IsSaid : List Class → Described → Type 0
   IsSaid cs d = (k : ℕ) × (slice_get cs k ≡ Some d.class) × (j : ℕ) × (slice_get (methods_of_class w d.class) j
       ≡ Some d.member) × (let m = d.method in m.offset ≡ method_offset p d.member)
+      × (d.method ≡ method_descriptor p d.class d.member) × (d.holder ≡ (let c = d.class in class_ref p c.name))
 
-  said_in : (c : Class) (cs : List Class) (holder : ClassRef) (fs : List Found) → ((j : ℕ) (f : Found) → slice_get fs
-      j ≡ Some f → (i : ℕ) × (slice_get (methods_of_class w c) i ≡ Some f)) → AllByRecursion (IsSaid (c ∷ cs))
-      (described_in c holder fs (map (method_descriptor p c) fs))
-  said_in c cs holder [] all = tt
-  said_in c cs holder (f ∷ fs) all = let r = all 0 f refl in (
-    (0, refl, r.0, r.1, refl),
-    said_in c cs holder fs
+  said_in : (c : Class) (cs : List Class) (holder : ClassRef) → holder ≡ class_ref p c.name → (fs : List Found)
+      → ((j : ℕ) (f : Found) → slice_get fs j ≡ Some f → (i : ℕ) × (slice_get (methods_of_class w c) i ≡ Some f))
+      → AllByRecursion (IsSaid (c ∷ cs)) (described_in c holder fs (map (method_descriptor p c) fs))
+  said_in c cs holder same [] all = tt
+  said_in c cs holder same (f ∷ fs) all = let r = all 0 f refl in (
+    (0, refl, r.0, r.1, refl, refl, same),
+    said_in c cs holder same fs
         (λ j g e. all (suc j) g e),
   )
 
   said_later : (c : Class) (cs : List Class) (ds : List Described) → AllByRecursion (IsSaid cs) ds
       → AllByRecursion (IsSaid (c ∷ cs)) ds
   said_later c cs [] all = tt
-  said_later c cs (d ∷ ds) all = let r = all.0 in ((suc r.0, r.1, r.2, r.3, r.4), said_later c cs ds all.1)
+  said_later c cs (d ∷ ds) all = let r = all.0 in (
+    (suc r.0, r.1, r.2, r.3, r.4, r.5, r.6),
+    said_later c cs
+        ds all.1,
+  )
 
   pub all_said : (cs : List Class) → AllByRecursion (IsSaid cs) (described_among w cs (map (class_descriptor p) cs))
   all_said [] = tt
   all_said (c ∷ cs) = all_both (IsSaid (c ∷ cs)) (described_in c (class_ref p c.name) (methods_of_class w c)
       (map (method_descriptor p c) (methods_of_class w c))) (described_among w cs (map (class_descriptor p) cs))
-      (said_in c cs (class_ref p c.name) (methods_of_class w c) (λ j f e. (j, e)))
+      (said_in c cs (class_ref p c.name) refl (methods_of_class w c) (λ j f e. (j, e)))
       (said_later c cs (described_among w cs (map (class_descriptor p) cs)) (all_said cs))

@@ -1,6 +1,7 @@
 -- Entries of the constant pool name methods of their keys' descriptors: those of virtual methods, of methods of
 -- superclasses, and of static methods and constructors of imported classes.
-use Rattle.std.proofs.Common.{◌≡◌, ℕ, ◌+◌, ◌==◌, refl, sym, ap, subst, ◌∙◌, arith, Bool, true, false, List, [], ◌∷◌}
+use Rattle.std.proofs.Common.{◌≡◌, ℕ, zero, suc, ◌+◌, ◌==◌, refl, sym, ap, subst, ◌∙◌, arith, Bool, true, false, List}
+use Rattle.std.proofs.Common.{[], ◌∷◌}
 use Rattle.std.specs.Prelude.{◌&&◌, cond, Option, Some, if◌then◌else◌, option_and_then, option_map, slice_get}
 use Rattle.std.specs.Prelude.{unwrap_or}
 use Rattle.std.specs.List.{find}
@@ -14,7 +15,9 @@ use Rattle.cjc_verified_proof.specs.CardSemantics.Machine.Loaded.{OfFile}
 use Rattle.cjc_verified_proof.specs.CardSemantics.Machine.Operations.{Outer, method_through, outer, unbound_of}
 use Rattle.cjc_verified_proof.specs.CardSemantics.Machine.Operations as card
 use Rattle.cjc_verified_proof.specs.Components.Class.{superclass}
-use Rattle.cjc_verified_proof.specs.Components.Names.{class_ref, fixed_as, member_ref, member_token, names}
+use Rattle.cjc_verified_proof.specs.CapRead.declared.tree.StaticRef.TheVariants as statics
+use Rattle.cjc_verified_proof.specs.Components.Names.{class_ref, fixed_as, member_ref, member_token, method_ref}
+use Rattle.cjc_verified_proof.specs.Components.Names.{names}
 use Rattle.cjc_verified_proof.specs.Components.Names.{offset_where, virtual_token}
 use Rattle.cjc_verified_proof.specs.Components.Package.{Package, world}
 use Rattle.cjc_verified_proof.specs.Components.Paired.Naming.{files_from}
@@ -57,25 +60,56 @@ use Rattle.cjc_accepted_proof.specs.Written.{written_pair}
 use Rattle.cjc_accepted_theorem.proofs.FieldsLaws.{class_there}
 use Rattle.cjc_accepted_theorem.proofs.VirtualsLaws.{HasToken, has_token, place}
 
--- the method that a static reference finds has the descriptor of what the machine finds
-unbound_desc : (ms : List ExportMethod) (t : ℕ) (class : List ℕ) (id : MemberId) → option_map (outer true class)
-    (unbound_of ms t) ≡ Some (Outer true id) → method_desc (find (λ (m : ExportMethod). (m.token == t)
-    && is_unbound m.flags m.name) ms) ≡ Some id.desc
-unbound_desc [] t class id e = absurd cc
-unbound_desc (x ∷ ms) t class id e = by (is_unbound x.flags x.name) (x.token == t) e (unbound_desc ms t class id)
-  where
-    found : Option ExportMethod
-    found = find (λ (m : ExportMethod). (m.token == t) && is_unbound m.flags m.name) ms
+-- a method that a static reference finds by its token among these
+pub record IsListed (ms : List ExportMethod) (token : ℕ) (id : MemberId) : Type 0 where
+  pub place : ℕ
+  pub method : ExportMethod
+  pub there : slice_get ms place ≡ Some method
+  pub found : find (λ (m : ExportMethod). (m.token == token) && is_unbound m.flags m.name) ms ≡ Some method
+  pub name : method.name ≡ id.name
+  pub desc : method.desc ≡ id.desc
 
-    by : (a b : Bool) → option_map (outer true class) (if a && b then Some x else unbound_of ms t)
-        ≡ Some (Outer true id) → (option_map (outer true class) (unbound_of ms t) ≡ Some (Outer true id)
-        → method_desc found ≡ Some id.desc) → method_desc (cond (b && a) (Some x) found) ≡ Some id.desc
-    by true true f rest =
+-- it has the name and the descriptor of what the machine finds
+unbound_listed : (ms : List ExportMethod) (t : ℕ) (class : List ℕ) (id : MemberId) → option_map (outer true class)
+    (unbound_of ms t) ≡ Some (Outer true id) → IsListed ms t id
+unbound_listed [] t class id e = absurd cc
+unbound_listed (x ∷ ms) t class id e = by (is_unbound x.flags x.name) (x.token == t) refl refl e (unbound_listed ms t
+    class id)
+  where
+    test : ExportMethod → Bool
+    test m = (m.token == t) && is_unbound m.flags m.name
+
+    Rest : Type 0
+    Rest = option_map (outer true class) (unbound_of ms t) ≡ Some (Outer true id) → IsListed ms t id
+
+    later : (b : Bool) → ((x.token == t) && is_unbound x.flags x.name) ≡ b → b ≡ false → IsListed ms t id → IsListed (x
+        ∷ ms) t id
+    later b f g r = record {
+      place = suc r.place;
+      method = r.method;
+      there = r.there;
+      found = ap (λ c. cond c (Some x) (find (λ (m : ExportMethod). (m.token == t) && is_unbound m.flags m.name) ms)) (f
+          ∙ g) ∙ r.found;
+      name = r.name;
+      desc = r.desc;
+    }
+
+    by : (a b : Bool) → is_unbound x.flags x.name ≡ a → (x.token == t) ≡ b → option_map (outer true class) (if a && b
+        then Some x else unbound_of ms t) ≡ Some (Outer true id) → Rest → IsListed (x ∷ ms) t id
+    by true true f g h rest =
         let same : record { class = class; name = x.name; desc = x.desc } ≡ id = cc in
-        ap (λ (v : MemberId). Some v.desc) same
-    by true false f rest = rest f
-    by false true f rest = rest f
-    by false false f rest = rest f
+        record {
+          place = 0;
+          method = x;
+          there = refl;
+          found = ap (λ c. cond c (Some x) (find (λ (m : ExportMethod). (m.token == t) && is_unbound m.flags m.name)
+              ms)) (ap (λ c. c && is_unbound x.flags x.name) g ∙ f);
+          name = ap (λ (v : MemberId). v.name) same;
+          desc = ap (λ (v : MemberId). v.desc) same;
+        }
+    by true false f g h rest = later false (ap (λ c. c && is_unbound x.flags x.name) g) refl (rest h)
+    by false true f g h rest = later false (ap (λ c. c && is_unbound x.flags x.name) g ∙ f) refl (rest h)
+    by false false f g h rest = later false (ap (λ c. c && is_unbound x.flags x.name) g) refl (rest h)
 
 module _ (list : List ℕ) (p : Package) (sound : IsSound list p.files) (facts : Facts p) (tokens : KeepsTokens (world p))
     (mean : TokensMean (world p)) (mean_here : PackageTokensMean (world p)) where
@@ -155,19 +189,28 @@ module _ (list : List ℕ) (p : Package) (sound : IsSound list p.files) (facts :
 
 module _ (list : ListTree) (files : List (List ℕ)) (judged : Judged) (p : Package) (is : IsConverted list files judged
     p) (facts : Facts p) where
-  -- a static method or a constructor by the imported class that declares it
-  pub abroad_named : (class : ClassTree) (op : ℕ) (id : MemberId) (n : Names_method list files judged p is class op id)
-      → (let d = n.owner in d.is_imported) ≡ true → (let d = n.owner in is_interface d.flags) ≡ false
+  -- What an export file lists of a static method or a constructor that a call names, by the imported class that
+  -- declares it.
+  pub record Abroad (class : ClassTree) (op : ℕ) (id : MemberId) (n : Names_method list files judged p is class op id)
+      (import : (let d = n.owner in d.is_imported) ≡ true) : Type 0 where
+    pub token : ℕ
+    pub ref : (let d = n.owner in let h = facts.file d.name d n.named import in let e = h.entry in method_ref p
+        (of_class d.name id) ≡ statics.Outside h.file e.token token)
+    pub entry : (let d = n.owner in let h = facts.file d.name d n.named import in let e = h.entry in named.exported
+        (written_pair p) h.file e.token ≡ Some e)
+    pub listed : (let d = n.owner in let h = facts.file d.name d n.named import in let e = h.entry in IsListed e.methods
+        token id)
+
+  pub abroad : (class : ClassTree) (op : ℕ) (id : MemberId) (n : Names_method list files judged p is class op id)
+      → (import : (let d = n.owner in d.is_imported) ≡ true) → (let d = n.owner in is_interface d.flags) ≡ false
       → is_unbound (let a = n.at in let m = a.member in m.flags) (let a = n.at in let m = a.member in m.name) ≡ true
-      → named_desc (written_pair p) (entry_of (names p) (keys.StaticMethod (of_class (let d = n.owner in d.name) id)))
-      ≡ Some id.desc
-  abroad_named class op id n import plain bound =
+      → Abroad class op id n import
+  abroad class op id n import plain bound =
       let d = n.owner in
       let m = of_class d.name id in
       let sound = files_sound list files judged p is in
       let h = facts.file d.name d n.named import in
       let e = h.entry in
-      let q = written_pair p in
       let a = n.at in
       let at : IsAt false m.name m.desc d n.place = record {
         place = a.place;
@@ -191,6 +234,29 @@ module _ (list : ListTree) (files : List (List ℕ)) (judged : Judged) (p : Pack
       ∙ ap (option_and_then (method_through (loaded p) true e.token token)) import_is
       ∙ ap (option_and_then (λ (v : ExportClass). option_map (outer true v.name) (unbound_of v.methods token))) h.there)
       ∙ fixed ∙ ap (λ k. Some (fixed_as true m (member_ref k offset token))) h.on_card in
-      ap (λ k. named_desc q (StaticMethodref (member_ref k offset token))) h.on_card
-      ∙ ap (λ o. method_desc (option_and_then (static_method token) o)) (entry_there list.name p sound d h)
-      ∙ unbound_desc e.methods token e.name m means
+      record {
+        token = token;
+        ref = ap (λ k. member_ref k offset token) h.on_card;
+        entry = entry_there list.name p sound d h;
+        listed = (let r = unbound_listed e.methods token e.name m means in record {
+          place = r.place;
+          method = r.method;
+          there = r.there;
+          found = r.found;
+          name = r.name;
+          desc = r.desc;
+        });
+      }
+
+  -- a static method or a constructor by the imported class that declares it
+  pub abroad_named : (class : ClassTree) (op : ℕ) (id : MemberId) (n : Names_method list files judged p is class op id)
+      → (let d = n.owner in d.is_imported) ≡ true → (let d = n.owner in is_interface d.flags) ≡ false
+      → is_unbound (let a = n.at in let m = a.member in m.flags) (let a = n.at in let m = a.member in m.name) ≡ true
+      → named_desc (written_pair p) (entry_of (names p) (keys.StaticMethod (of_class (let d = n.owner in d.name) id)))
+      ≡ Some id.desc
+  abroad_named class op id n import plain bound =
+      let a = abroad class op id n import plain bound in
+      let x = a.listed in
+      ap (λ k. named_desc (written_pair p) (StaticMethodref k)) a.ref
+      ∙ ap (λ o. method_desc (option_and_then (static_method a.token) o)) a.entry
+      ∙ ap method_desc x.found ∙ ap (λ v. Some v) x.desc

@@ -19,7 +19,9 @@ use Rattle.cjc_accepted_proof.proofs.CheckProofSupers.{in_place}
 use Rattle.cjc_verified_proof.specs.ClassFile.declared.tree.ClassTree.{ClassTree}
 use Rattle.cjc_verified_proof.specs.Components.Descriptor.{as_added, class_descriptor, method_descriptor, method_in}
 use Rattle.cjc_verified_proof.specs.Components.Methods.{first_method, method_offset, method_size}
-use Rattle.cjc_verified_proof.specs.Components.Names.{class_at, class_ref, member_token, names, offset_where}
+use Rattle.cjc_verified_proof.specs.CapRead.declared.tree.StaticRef.TheVariants as statics
+use Rattle.cjc_verified_proof.specs.Components.Names.{class_at, class_ref, member_token, method_ref, names}
+use Rattle.cjc_verified_proof.specs.Components.Names.{offset_where}
 use Rattle.cjc_verified_proof.specs.Components.Package.{LaidMethod, Package, world}
 use Rattle.cjc_verified_proof.specs.JvmSemantics.OnePackage.{of_class}
 use Rattle.cjc_verified_proof.specs.NCode.Lowering.Naming.{entry_of}
@@ -39,9 +41,9 @@ use Rattle.cjc_verified_proof.proofs.TokenProofOrder.{kind-in, order_has, order_
 use Rattle.cjc_verified_proof.specs.TokenProof.Components.Methods.{HasMethods}
 use Rattle.cjc_verified_proof.specs.List.Listed.{ListTree}
 use Rattle.cjc_verified_proof.specs.TokenProof.Tables.Sound.{IsSound}
-use Rattle.cjc_verified_proof.specs.Verify.Named.{method_desc_at, named_desc}
+use Rattle.cjc_verified_proof.specs.Verify.Named.{named_desc}
 use Rattle.cjc_verified_proof.specs.Verify.Pairs.{Described, Pair, described, described_among, described_in}
-use Rattle.cjc_verified_proof.specs.Verify.Pairs.{is_method_at, member_of}
+use Rattle.cjc_verified_proof.specs.Verify.Pairs.{is_method_at, member_of, method_at}
 use Rattle.cjc_theorem.proofs.VTableFiled.{Has, at_front, behind, get-has, has-either, has-get}
 use Rattle.cjc_verified_proof.specs.World.Classes.{Class, Member, class_named, declared}
 use Rattle.cjc_verified_proof.specs.World.Added.{added}
@@ -194,10 +196,27 @@ module _ (list : ListTree) (files : List (List ℕ)) (judged : Judged) (p : Pack
   number_is d f (of_file i m is_m is_f same plain) = ap (λ (x : Found). x.class) is_f
   number_is d f (of_interfaces i m is_m is_f same) = ap (λ (x : Found). x.class) is_f
 
-  pub method_entry : (class : ClassTree) (op : ℕ) (id : MemberId) (n : Names_method list files judged p is class op id)
+  -- What Descriptor says of a method of the package that a call names, by where its header stands.
+  pub record Entered (by : ClassTree) (op : ℕ) (id : MemberId) (n : Names_method list files judged p is by op id)
+      :
+      Type 0 where
+    pub one : Described
+    pub ref : (let d = n.owner in method_ref p (of_class d.name id)) ≡ statics.Inside (method_offset p n.place)
+    pub found : method_at q (method_offset p n.place) ≡ Some one
+    pub class : one.class ≡ n.owner
+    pub member : one.member ≡ n.place
+    pub holder : one.holder ≡ (let d = n.owner in class_ref p d.name)
+    pub method : one.method ≡ method_descriptor p n.owner n.place
+    pub place : ℕ
+    pub owned : slice_get (class_order w) place ≡ Some n.owner
+    pub number : ℕ
+    pub listed : slice_get (methods_of_class w n.owner) number ≡ Some n.place
+    pub tree : (let d = n.owner in let f = n.place in method_in w d f.member) ≡ (let a = n.at in a.member)
+
+  pub entered : (class : ClassTree) (op : ℕ) (id : MemberId) (n : Names_method list files judged p is class op id)
       → (let d = n.owner in d.is_imported) ≡ false → (let d = n.owner in is_interface d.flags) ≡ false
-      → named_desc q (entry_of (names p) (keys.StaticMethod (of_class (let d = n.owner in d.name) id))) ≡ Some id.desc
-  method_entry class op id n own plain =
+      → Entered class op id n
+  entered class op id n own plain =
       let d = n.owner in
       let at = n.at in
       let f = n.place in
@@ -225,21 +244,42 @@ module _ (list : ListTree) (files : List (List ℕ)) (judged : Judged) (p : Pack
       let number : k.number ≡ d.number = sym (number_is k x.member (method_from w k said.2 x.member said.3))
       ∙ ap (λ (g : Found). g.class) (same ∙ at.is) in
       let classes : k ≡ d = one_class k d listed known number in
-      let member : member_of q x ≡ at.member =
-      ap (λ (c : Class). method_in w c (let g = x.member in g.member)) classes
-      ∙ ap (λ (g : Found). method_in w d g.member) (same ∙ at.is)
-      ∙ member_is w d at.place at.member (in_front d.methods (map as_added (added w d)) at.place at.member at.is_member)
-      in
       let hit = find_method w d.name id.name id.desc in
-      ap (λ z. named_desc q (StaticMethodref z)) (own_ref (class_at p d.name) r.0 (offset_where p hit) (member_token p
-      hit) r.2)
-      ∙ ap (λ g. method_desc_at q (offset_where p g)) n.again
-      ∙ ap (option_map (λ (z : Described). let v = member_of q z in v.desc)) y.1
-      ∙ ap (λ (v : Member). Some v.desc) member ∙ ap (λ v. Some v) at.has_desc
+      record {
+        one = x;
+        ref = own_ref (class_at p d.name) r.0 (offset_where p hit) (member_token p hit) r.2
+            ∙ ap (λ g. statics.Inside (offset_where p g)) n.again;
+        found = y.1;
+        class = classes;
+        member = same;
+        holder = said.6 ∙ ap (λ (c : Class). class_ref p c.name) classes;
+        method = said.5 ∙ ap (λ (c : Class). method_descriptor p c x.member) classes ∙ ap (method_descriptor p d) same;
+        place = number_of.0;
+        owned = number_of.1;
+        number = said.2;
+        listed = ap (λ (c : Class). slice_get (methods_of_class w c) said.2) (sym classes) ∙ said.3
+            ∙ ap (λ (g : Found). Some g) same;
+        tree = ap (λ (g : Found). method_in w d g.member) at.is ∙ member_is w d at.place at.member (in_front d.methods
+            (map as_added (added w d)) at.place at.member at.is_member);
+      }
     where
       two : (a b : Bool) → (a && b) ≡ true → (a ≡ true) × (b ≡ true)
       two true b e = (refl, e)
       two false b e = absurd cc
+
+  pub method_entry : (class : ClassTree) (op : ℕ) (id : MemberId) (n : Names_method list files judged p is class op id)
+      → (let d = n.owner in d.is_imported) ≡ false → (let d = n.owner in is_interface d.flags) ≡ false
+      → named_desc q (entry_of (names p) (keys.StaticMethod (of_class (let d = n.owner in d.name) id))) ≡ Some id.desc
+  method_entry class op id n own plain =
+      let d = n.owner in
+      let at = n.at in
+      let e = entered class op id n own plain in
+      let member : member_of q e.one ≡ at.member =
+      ap (λ (c : Class). method_in w c (let g = e.one in let f = g.member in f.member)) e.class
+      ∙ ap (λ (g : Found). method_in w d g.member) e.member ∙ e.tree in
+      ap (λ z. named_desc q (StaticMethodref z)) e.ref
+      ∙ ap (option_map (λ (z : Described). let v = member_of q z in v.desc)) e.found
+      ∙ ap (λ (v : Member). Some v.desc) member ∙ ap (λ v. Some v) at.has_desc
 
   -- what a call names that a class of the package declares
   pub called_entry : (class : ClassTree) (op : ℕ) (id : MemberId) → IsInsnOf p.files judged.codes class (jop.Call op id)

@@ -151,7 +151,7 @@ module _ (list : ListTree) (files : List (List ℕ)) (judged : Judged) (p : Pack
       not_abroad import e = clash (let d = n.owner in d.is_imported) import (private_own list judged.codes p
           (is_of_files list files judged p is) class 0xB7 id n e)
 
-  one_named : (key : PoolKey) → IsMet p.files judged.codes key → NamesItsDesc p key
+  pub one_named : (key : PoolKey) → IsMet p.files judged.codes key → NamesItsDesc p key
   one_named _ (sources.of_class c e) = tt
   one_named _ (sources.of_field class put id of) = instance_named class put id of
   one_named _ (sources.of_static class put id of none) =

@@ -1,2 +1,4 @@
 pub mod NamesDesc
 pub mod Begins
+pub mod ExportsHaveCode
+pub mod CallsServed

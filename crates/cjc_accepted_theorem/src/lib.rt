@@ -10,3 +10,4 @@ pub mod entries;
 pub mod headers;
 pub mod read;
 pub mod read_back;
+pub mod served;
