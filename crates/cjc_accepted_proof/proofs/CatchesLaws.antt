@@ -77,6 +77,10 @@ each_in P (y ∷ ys) x all on = by (contains_cons y ys x on) (each_in P ys x all
     by (inl same) more = subst P same all.0
     by (inr later) more = more later
 
+all_of : {A : Type 0} (P : A → Type 0) (xs : List A) → ((x : A) → Contains xs x → P x) → AllByRecursion P xs
+all_of P [] each = tt
+all_of P (x ∷ xs) each = (each x (contains_head x xs), all_of P xs (λ y on. each y (contains_tail x xs y on)))
+
 -- handlers of other methods cover nothing of this one
 elsewhere_covers : (start end at : ℕ) (hs : List Handler) (h : Handler) → start ≤ at → at ≤ end
     → AllElsewhere start end hs → Contains hs h → h.start ≤ at → at < h.start + h.length → ⊥
@@ -163,8 +167,12 @@ module _ (r : Resolution) where
 
 module _ (p : Package) (m : Beside) (codes : _) (is : IsBeside p m codes) (can : AllWritable (names p) p.methods)
     (stand : HandlersStand (names p) (placed_at m.offset m.laid) (part p))
-    (caught : (d : CatchByName) → Contains (let tree = m.tree in tree.catches) d → caught_type (written_pair p)
-    (class_index (names p) d.class) ≡ card_type p (type_by_name d.class)) where
+    (caught : (d : NCatch) → Contains (let laid = m.laid in let code = laid.code in code.catches) d
+    → caught_type (written_pair p) (class_index (names p) d.class) ≡ card_type p (type_by_name d.class)) where
+  -- one that catches by its index the card's type of its class
+  abbrev IsNamed : NCatch → Type 0
+  IsNamed d = caught_type (written_pair p) (class_index (names p) d.class) ≡ card_type p (type_by_name d.class)
+
   abbrev to : ℕ → ℕ
   to = offset_in p m
 
@@ -307,6 +315,9 @@ module _ (p : Package) (m : Beside) (codes : _) (is : IsBeside p m codes) (can :
         (λ d within. within)) in
         let mine = each_in (IsFor label tree.catches) table nc (each_ordered (IsFor label tree.catches) (let laid = m.laid
         in let code = laid.code in code.catches) all) g.2 in
+        let laid_catches = (let laid = m.laid in let code = laid.code in code.catches) in
+        let named : IsNamed nc = each_in IsNamed table nc (each_ordered IsNamed laid_catches (all_of IsNamed
+        laid_catches caught)) g.2 in
         let d = mine.0 in
         let same : handler_of (names p) to (catch_at label d) g.1 ≡ h = ap (λ (z : NCatch). handler_of (names p) to z
         g.1) mine.2 ∙ g.3 in
@@ -318,7 +329,8 @@ module _ (p : Package) (m : Beside) (codes : _) (is : IsBeside p m codes) (can :
           catch = d;
           listed = mine.1;
           covers = in_range d (omega (arith, h_start, from)) (omega (arith, h_start, h_length, under));
-          caught = sym (ap (λ (z : Catch). z.caught) f.2) ∙ ap (caught_type (written_pair p)) (sym h_index) ∙ caught d
-              mine.1;
+          caught = sym (ap (λ (z : Catch). z.caught) f.2) ∙ ap (caught_type (written_pair p)) (sym h_index)
+              ∙ ap (λ (z : NCatch). caught_type (written_pair p) (class_index (names p) z.class)) mine.2 ∙ named
+              ∙ ap (λ (z : NCatch). card_type p (type_by_name z.class)) (sym mine.2);
           target = sym (ap (λ (z : Catch). z.target) f.2) ∙ sym h_target;
         }

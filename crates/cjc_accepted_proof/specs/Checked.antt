@@ -4,7 +4,7 @@ use Rattle.std.specs.Prelude.{◌≡◌, ◌+◌, ◌≤◌, ℕ, List, [], leng
 use Rattle.std.specs.List.{AllZip, Contains}
 use Rattle.cjc_types.specs.Bytecode.declared.insn.JInsn.{JInsn}
 use Rattle.cjc_types.specs.Cells.{IsCellBelow}
-use Rattle.cjc_types.specs.ClassFile.declared.tree.Catch.{Catch}
+use Rattle.cjc_check_proof.specs.NCode.declared.narrow.NCatch.{NCatch}
 use Rattle.cjc_types.specs.Fixpoint.Tables.{HasRow}
 use Rattle.cjc_types.specs.Flow.{arguments as arguments_by_name, caught_type as type_by_name}
 use Rattle.cjc_types.specs.declared.state.State.{State}
@@ -25,9 +25,9 @@ use Rattle.cjc_accepted_proof.specs.Served.{IsServed, IsServedIn}
 use Rattle.cjc_accepted_proof.specs.Written.{written_pair}
 
 module _ (p : Package) (m : Beside) where
-  -- Each handler of the class file catches by its index the card's type of the class that it names.
+  -- Each handler that is laid catches by its index the card's type of the class that its class file's names.
   abbrev pub CatchesAreNamed : Type 0
-  CatchesAreNamed = (c : Catch) → (let tree = m.tree in Contains tree.catches c)
+  CatchesAreNamed = (c : NCatch) → (let laid = m.laid in let code = laid.code in Contains code.catches c)
       → caught_type (written_pair p) (class_index (names p) c.class) ≡ card_type p (type_by_name c.class)
 
   -- What its reached instructions name is served.

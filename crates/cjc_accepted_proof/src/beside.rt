@@ -85,7 +85,7 @@ pub fn instructions_are_laid()
 {}
 
 /// Each handler of Method that covers what is written for an instruction is that of a handler of the class file which
-/// covers the instruction, where each handler of the class file catches by its index the card's type of its class.
+/// covers the instruction, where each handler that is laid catches by its index the card's type of its class.
 pub fn handlers_cover_alike()
     ensures { (p : Package) (m : Beside) (codes : List MethodCode) → IsBeside p m codes
         → AllWritable (names p) p.methods → HandlersStand (names p) (placed_at m.offset m.laid) (part p)

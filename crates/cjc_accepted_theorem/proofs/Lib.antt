@@ -22,3 +22,8 @@ mod ServedLaws
 mod FixedLaws
 mod ThrownLaws
 mod InterfaceLaws
+mod CutLaws
+mod BodiesLaws
+mod CodedLaws
+mod CaughtLaws
+mod NamingLaws

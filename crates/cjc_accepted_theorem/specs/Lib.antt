@@ -2,3 +2,4 @@ pub mod NamesDesc
 pub mod Begins
 pub mod ExportsHaveCode
 pub mod CallsServed
+pub mod ReadFrom

@@ -5,6 +5,7 @@
 
 pub mod abstracts;
 pub mod carded;
+pub mod coded;
 pub mod converted;
 pub mod entries;
 pub mod headers;

@@ -1,0 +1,61 @@
+//! Code: what is written for a method of a converted package, the type checker accepts where it reads of it what the
+//! class file says.
+ghost use Rattle.std.specs.Prelude.{◌≡◌, List, Some, slice_get, ℕ};
+ghost use Rattle.cjc_verified_proof.specs.Components.Methods.{placed_at};
+ghost use Rattle.cjc_verified_proof.specs.Components.Names.{names};
+ghost use Rattle.cjc_verified_proof.specs.Components.Package.{Package};
+ghost use Rattle.cjc_verified_proof.specs.List.Listed.{ListTree};
+ghost use Rattle.cjc_verified_proof.specs.TokenProof.Tables.Loading.{components, part};
+ghost use Rattle.cjc_verified_proof.specs.Verify.Bodies.{Body, bodies};
+ghost use Rattle.cjc_check_proof.specs.Code.Written.{AllWritable};
+ghost use Rattle.cjc_ncode.specs.Lowering.Placed.{HandlersStand};
+ghost use Rattle.cjc_theorem.specs.LowerJudge.declared.judged.Judged.{Judged};
+ghost use Rattle.cjc_theorem.specs.ShapeProof.Written.Converted.{IsConverted};
+ghost use Rattle.cjc_accepted_proof.specs.Accepted.{HasTable};
+ghost use Rattle.cjc_accepted_proof.specs.Beside.{Beside, IsBeside};
+ghost use Rattle.cjc_accepted_proof.specs.Checked.{CatchesAreNamed, IsReadAs};
+ghost use Rattle.cjc_accepted_theorem.specs.CallsServed.{CallsAboveServed};
+ghost use Rattle.cjc_accepted_theorem.specs.ExportsHaveCode.{ExportsHaveCode};
+ghost use Rattle.cjc_accepted_theorem.specs.ReadFrom.{IsReadFrom};
+
+use crate::served::{
+    converted_instructions_are_served, converted_methods_are_served,
+    rows_of_converted_packages_stand,
+};
+use cjc_accepted_proof::beside::{checked_methods_have_tables, methods_stand_in_pairs};
+use cjc_accepted_proof::check_proof::code::methods_are_cut;
+use cjc_theorem::alike::{calls_have_opcodes, names_are_there};
+use cjc_theorem::shape_proof::written::{
+    converted_methods_are_consistent, converted_methods_are_ready,
+};
+use cjc_verified_proof::layout::layouts_are_laid_out;
+
+/// Of each method of Method of a converted package the type checker reads what is laid for it.
+pub fn converted_methods_are_read()
+    ensures { (list : ListTree) (files : List (List ℕ)) (judged : Judged) (p : Package)
+        → IsConverted list files judged p → (k : ℕ) (v : Body) → slice_get (bodies (components p)) k ≡ Some v
+        → IsReadFrom p k v }
+{
+    calls_have_opcodes();
+    converted_methods_are_consistent();
+    converted_methods_are_ready();
+    layouts_are_laid_out();
+    methods_are_cut();
+    names_are_there();
+}
+
+/// A method of Method that is written for one of a class file has a closed table of frames that breaks no rule, where
+/// the type checker reads of it what the class file says, and its handlers stand and catch what those of the class file
+/// name.
+pub fn converted_methods_have_tables()
+    ensures { (list : ListTree) (files : List (List ℕ)) (judged : Judged) (p : Package)
+        → IsConverted list files judged p → ExportsHaveCode p → CallsAboveServed p judged.codes
+        → (m : Beside) → IsBeside p m judged.codes → (v : Body) → IsReadAs p m v → AllWritable (names p) p.methods
+        → HandlersStand (names p) (placed_at m.offset m.laid) (part p) → CatchesAreNamed p m → HasTable p v }
+{
+    checked_methods_have_tables();
+    converted_instructions_are_served();
+    converted_methods_are_served();
+    methods_stand_in_pairs();
+    rows_of_converted_packages_stand();
+}
