@@ -32,7 +32,8 @@ use Rattle.cjc_verify.specs.Narrow.Pairs.Roles.{keeps_this}
 use Rattle.cjc_frames.specs.Flow.{Body as Frames}
 use Rattle.cjc_frames.specs.declared.acts.Step.{Step}
 use Rattle.cjc_accepted_proof.specs.Accepted.{HasTable}
-use Rattle.cjc_accepted_proof.specs.Beside.{Beside, ConstantsAreNumbers, IsBeside, RowsStandAlone, body_by_name, label_in}
+use Rattle.cjc_accepted_proof.specs.Beside.{Beside, ConstantsAreNumbers, IsBeside, RowsStandAlone, body_by_name}
+use Rattle.cjc_accepted_proof.specs.Beside.{label_in}
 use Rattle.cjc_accepted_proof.specs.Beside.{names_in, offset_in, opened_in, plain_names, reached_in, step_in}
 use Rattle.cjc_accepted_proof.specs.Blocks.{AreBlocks, Block, frames_of as frames_of_blocks}
 use Rattle.cjc_accepted_proof.specs.Checked.{IsChecked, IsServedAll}
@@ -131,7 +132,8 @@ module _ (p : Package) (m : Beside) (codes : List MethodCode) (is : IsBeside p m
     steps_same =
         let laid = m.laid in
         ap (map (step (written_pair p) (let t = type_of_body (components p) v in t.result))) checked.read.instructions
-        ∙ ap (λ (t : ValueType). map (step (written_pair p) t) (let c = code_at (names p) m.offset m.laid in c.instructions)) checked.read.result
+        ∙ ap (λ (t : ValueType). map (step (written_pair p) t) (let c = code_at (names p) m.offset m.laid in
+        c.instructions)) checked.read.result
         ∙ steps_are_laid p m.result m.offset m.laid (checked.writable is.number m.laid is.is_laid).count
 
     pub written_for : IsWrittenFor (card_type p) (is_of p) (names_in p m) (body_by_name m) m.rows (opened_in p m)
@@ -142,7 +144,8 @@ module _ (p : Package) (m : Beside) (codes : List MethodCode) (is : IsBeside p m
       ascends = λ j k lt le. (
           let long = ap length steps_same in
           let same = steps_long 0 (let laid = m.laid in let code = laid.code in code.insns) in
-          label_ascends (names p) m.offset m.laid (checked.writable is.number m.laid is.is_laid) j k lt (omega (arith, le, long, same))
+          label_ascends (names p) m.offset m.laid (checked.writable is.number m.laid is.is_laid) j k lt (omega
+          (arith, le, long, same))
           );
       locals = checked.read.locals;
       begins = entry_below (card_type p) frames b checked.read.locals checked.read.arguments;
@@ -175,7 +178,8 @@ module _ (p : Package) (m : Beside) (codes : List MethodCode) (is : IsBeside p m
 -- no instruction leaves nothing to show
 pub bare_table : (p : Package) (v : Body) → v.instructions ≡ [] → HasTable p v
 bare_table p v none =
-    let few : length (let f = frames_of (written_pair p) v in f.steps) ≡ 0 = ap (λ is. length (map (step (written_pair p)
+    let few : length (let f = frames_of (written_pair p) v in f.steps) ≡ 0 = ap (λ is. length (map (step
+    (written_pair p)
     (let t = type_of_body (components p) v in t.result)) is)) none in
     record {
       rows = [];

@@ -209,7 +209,8 @@ module _ (p : Package) (m : Beside) (codes : _) (is : IsBeside p m codes) (can :
       on) (step_here (from + 1) insns s)
     where
       by : ((step_in p m from x ≡ s) ⊎ Contains (steps_from (step_in p m) (from + 1) insns) s)
-          → (Contains (steps_from (step_in p m) (from + 1) insns) s → (j : ℕ) × (j < length insns) × (s.at ≡ to (from + 1
+          → (Contains (steps_from (step_in p m) (from + 1) insns) s → (j : ℕ) × (j < length insns) × (s.at ≡ to (from
+          + 1
           + j))) → (j : ℕ) × (j < length (x ∷ insns)) × (s.at ≡ to (from + j))
       by (inl same) more =
           let none : from ≡ from + 0 = omega arith in
@@ -306,14 +307,16 @@ module _ (p : Package) (m : Beside) (codes : _) (is : IsBeside p m codes) (can :
         (λ late. absurd (elsewhere_covers (first (placed_at m.offset m.laid)) (to count) s.at stand.later h start_low
         end_high stand.later_elsewhere late from under))
         (Contains-append_cases (handlers_of (names p) to table) stand.later h more))
-        (Contains-append_cases stand.earlier (handlers_of (names p) to table ++ stand.later) h (subst (λ (hs : List Handler). Contains hs h) stand.table f.1)) in
+        (Contains-append_cases stand.earlier (handlers_of (names p) to table ++ stand.later) h (subst (λ (hs : List
+        Handler). Contains hs h) stand.table f.1)) in
         let g = in_handlers (names p) to table h own in
         let nc = g.0 in
         let tree = m.tree in
         let all : AllByRecursion (IsFor label tree.catches) (let laid = m.laid in let code = laid.code in code.catches)
         = subst (AllByRecursion (IsFor label tree.catches)) (sym is.catches) (all_for label tree.catches tree.catches
         (λ d within. within)) in
-        let mine = each_in (IsFor label tree.catches) table nc (each_ordered (IsFor label tree.catches) (let laid = m.laid
+        let mine = each_in (IsFor label tree.catches) table nc (each_ordered (IsFor label tree.catches) (let laid =
+        m.laid
         in let code = laid.code in code.catches) all) g.2 in
         let laid_catches = (let laid = m.laid in let code = laid.code in code.catches) in
         let named : IsNamed nc = each_in IsNamed table nc (each_ordered IsNamed laid_catches (all_of IsNamed

@@ -1,5 +1,6 @@
 -- The decoded instructions of a method of Method are those that are laid, label by label.
-use Rattle.std.proofs.Common.{◌≡◌, ℕ, zero, suc, ◌+◌, refl, sym, ap, ◌∙◌, arith, Bool, false, List, [], ◌∷◌, length, map}
+use Rattle.std.proofs.Common.{◌≡◌, ℕ, zero, suc, ◌+◌, refl, sym, ap, ◌∙◌, arith, Bool, false, List, [], ◌∷◌, length}
+use Rattle.std.proofs.Common.{map}
 use Rattle.std.specs.Prelude.{get_or}
 use Rattle.cjc_check_proof.specs.Code.Codes.{laid_code}
 use Rattle.cjc_check_proof.specs.NCode.Lowering.Laid.{laid}

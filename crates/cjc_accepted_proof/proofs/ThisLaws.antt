@@ -1,7 +1,9 @@
 -- Methods with pairs that are written as one: local 0 holds their receiver before each instruction, and the reference
 -- that a pair leaves out is one that may be of its class.
-use Rattle.std.proofs.Common.{◌≡◌, ◌⊎◌, ℕ, zero, suc, ◌+◌, ◌<◌, refl, sym, ap, subst, ◌∙◌, arith, Bool, true, false, inl, inr}
-use Rattle.std.proofs.Common.{List, [], ◌∷◌, ◌++◌, length, map, filter_map, slice_get, slice_set, Option, Some, None, All}
+use Rattle.std.proofs.Common.{◌≡◌, ◌⊎◌, ℕ, zero, suc, ◌+◌, ◌<◌, refl, sym, ap, subst, ◌∙◌, arith, Bool, true, false}
+use Rattle.std.proofs.Common.{inl, inr}
+use Rattle.std.proofs.Common.{List, [], ◌∷◌, ◌++◌, length, map, filter_map, slice_get, slice_set, Option, Some, None}
+use Rattle.std.proofs.Common.{All}
 use Rattle.std.proofs.Common.{Contains, take, replicate}
 use Rattle.std.specs.Prelude.{◌&&◌, ◌||◌, ◌==◌, not, cond, nat_le, nat_lt, if◌then◌else◌, option_map, ℤ}
 use Rattle.std.specs.List.{AllZip, cons_option}
@@ -227,7 +229,8 @@ module _ (w : List Class) (r : Resolution) (b : Body) (rows : List (Option State
 
   -- local 0 is no number
   no_increase : (at : ℕ) (i : JInsn) (c : Cell) (ls : List Cell) (s : Stack) → slice_get b.insns at ≡ Some i
-      → HasRow rows at (record { stack = s; locals = c ∷ ls }) → (by : ℤ) → i.op ≡ jop.Inc 0 by → may_hold class c ≡ true
+      → HasRow rows at (record { stack = s; locals = c ∷ ls }) → (by : ℤ) → i.op ≡ jop.Inc 0 by → may_hold class c ≡
+      true
       → ⊥
   no_increase at i c ls Clash there row by is e = unbroken at 501 (record {
     insn = i;

@@ -1,5 +1,5 @@
--- What is asked of a method of Method beside the method of a class file that it is written for, so that the type checker
--- accepts its code.
+-- What is asked of a method of Method beside the method of a class file that it is written for, so that the type
+-- checker accepts its code.
 use Rattle.std.specs.Prelude.{◌≡◌, ◌+◌, ◌≤◌, ℕ, List, [], length, map, slice_get, Some}
 use Rattle.std.specs.List.{AllZip, Contains}
 use Rattle.cjc_types.specs.Bytecode.declared.insn.JInsn.{JInsn}
@@ -32,7 +32,8 @@ module _ (p : Package) (m : Beside) where
 
   -- What its reached instructions name is served.
   pub record IsServedAll : Type 0 where
-    pub in_code : IsServedIn (card_type p) (is_of p) (world p) (written_pair p) (names p) (names_in p m) (body_by_name m)
+    pub in_code : IsServedIn (card_type p) (is_of p) (world p) (written_pair p) (names p) (names_in p m)
+        (body_by_name m)
         m.result
     pub each : (at : ℕ) (i : JInsn) (x : State) → (let code = m.code in slice_get code.insns at ≡ Some i)
         → HasRow m.rows at x → IsServed (card_type p) (is_of p) (world p) (written_pair p) (names p) (names_in p m)

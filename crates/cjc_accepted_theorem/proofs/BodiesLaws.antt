@@ -1,5 +1,5 @@
--- Methods of Method of a converted package as the type checker reads them: their instructions are those that are laid, and
--- their headers say what the narrow code says.
+-- Methods of Method of a converted package as the type checker reads them: their instructions are those that are laid,
+-- and their headers say what the narrow code says.
 use Rattle.std.proofs.Common.{◌≡◌, ℕ, ◌+◌, ◌-◌, ◌≤◌, refl, sym, ap, ◌∙◌, arith, Bool, true, false, List, [], ◌++◌, map}
 use Rattle.std.proofs.Common.{append_assoc, drop, slice_get, Option, Some}
 use Rattle.std.specs.Prelude.{flat_map, nat_le, if◌then◌else◌}
@@ -101,7 +101,8 @@ module _ (p : Package) (apart : HaveOwnNames (class_order (world p))) (order : H
         let a = r.at in
         let b = bytes_there in
         sym s.header ∙ same_some (sym cut.is_header
-        ∙ ap (λ n. Rattle.cjc_card_semantics.specs.CapRead.MethodHeader.method_header (let c = components p in let m = c.method in drop
+        ∙ ap (λ n. Rattle.cjc_card_semantics.specs.CapRead.MethodHeader.method_header (let c = components p in let m
+        = c.method in drop
         (n - methods_begin (part p)) m.methods)) a.said
         ∙ ap Rattle.cjc_card_semantics.specs.CapRead.MethodHeader.method_header b.1 ∙ header_read laid b.0)
 

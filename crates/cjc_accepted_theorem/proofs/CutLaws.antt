@@ -18,7 +18,8 @@ pub record IsLaidAt (n : Naming) (at : ℕ) (ds : List MethodDescriptor) (ms : L
   pub said : d.offset ≡ offset
   pub code_is : code_at n offset laid ≡ code
 
-pub laid_there : (n : Naming) (at : ℕ) (ds : List MethodDescriptor) (ms : List LaidMethod) → Describes at ds ms → (k : ℕ)
+pub laid_there : (n : Naming) (at : ℕ) (ds : List MethodDescriptor) (ms : List LaidMethod) → Describes at ds ms → (k
+    : ℕ)
     (d : MethodDescriptor) (code : Code) → slice_get ds k ≡ Some d → slice_get (codes_at n at ms) k ≡ Some code
     → IsLaidAt n at ds ms k d code
 laid_there n at ds [] of k d code e f = absurd cc

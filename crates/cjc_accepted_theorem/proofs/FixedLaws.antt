@@ -230,9 +230,11 @@ module _ (list : ListTree) (files : List (List ℕ)) (judged : Judged) (p : Pack
       by : (b : Bool) → (let d = n.owner in d.is_imported) ≡ b
           → Says (method_ref p (of_class (let d = n.owner in d.name) id)) (let d = n.owner in d.name) (let a = n.at
           in let m = a.member in m.flags)
-      by false own = own_says class op id n own (fixed_in_class list judged.codes p (is_of_files list files judged p is) class op id n fixed) (own_coded
+      by false own = own_says class op id n own (fixed_in_class list judged.codes p (is_of_files list files judged p
+          is) class op id n fixed) (own_coded
           class op id n own fixed)
-      by true import = abroad_says class op id n import (fixed_in_class list judged.codes p (is_of_files list files judged p is) class op id n fixed)
+      by true import = abroad_says class op id n import (fixed_in_class list judged.codes p (is_of_files list files
+          judged p is) class op id n fixed)
           (bound import)
 
   -- ---- calls
@@ -323,7 +325,8 @@ module _ (list : ListTree) (files : List (List ℕ)) (judged : Judged) (p : Pack
       let fixed = three (is_static flags) (is_private flags) (is_constructor id.name) either in
       let unbound : (let o = n.owner in o.is_imported) ≡ true → is_unbound flags (let m = at.member in m.name) ≡ true =
       λ import. bound (is_static flags) (is_constructor id.name) (is_private flags) (is_constructor (let m = at.member
-      in m.name)) (sym bound_name) either (λ private. private_own list judged.codes p (is_of_files list files judged p is) class 0xB7 id n private)
+      in m.name)) (sym bound_name) either (λ private. private_own list judged.codes p (is_of_files list files judged
+      p is) class 0xB7 id n private)
       import in
       let s = says class 0xB7 id n fixed unbound in
       let plain : is_static flags ≡ false = (let g = n.fits in g.on_object) refl in

@@ -203,7 +203,8 @@ module _ (list : ListTree) (files : List (List ℕ)) (judged : Judged) (p : Pack
   interface_at class id word of holds =
       let c = called list files judged p is class 0xB9 id of in
       subst (InterfaceAt id) (sym c.resolved) (by c (subst (λ (g : MemberId). Holds (naming p) (keys.Class g.class))
-      c.resolved holds) (subst (λ g. IsNamed w (OnInterface 1 g)) c.resolved (interface_named list judged.codes p (is_of_files list files judged p is)
+      c.resolved holds) (subst (λ g. IsNamed w (OnInterface 1 g)) c.resolved (interface_named list judged.codes p
+      (is_of_files list files judged p is)
       class id of 1)))
     where
       by : (c : Calls_method list files judged p is class 0xB9 id)

@@ -54,7 +54,8 @@ module _ (p : Package) where
 
   switch_alike : (m : Meaning) (to : ℕ → ℕ) (at op other : ℕ) (low : ℤ) (cases : List NCase)
       → switch_as (naming p) to m at op other low cases ≡ switch_as (names p) to m at op other low cases
-  switch_alike (means.Ranged is_int) to at op other low cases = ap (ranged to at op other low cases) (offsets_alike to at
+  switch_alike (means.Ranged is_int) to at op other low cases = ap (ranged to at op other low cases) (offsets_alike
+      to at
       cases)
   switch_alike (means.Plain c) to at op other low cases = by_matches to at op other cases
   switch_alike (means.Branches c) to at op other low cases = by_matches to at op other cases

@@ -11,7 +11,8 @@ use Rattle.cjc_bytes.specs.Descriptor.{Part}
 use Rattle.cjc_bytes.specs.declared.descriptor.Kind.{Kind as PartKind}
 use Rattle.cjc_bytes.specs.declared.descriptor.Kind.TheVariants as part_kinds
 use Rattle.cjc_range.specs.Span.{Span, IsWord, full, Within}
-use Rattle.cjc_script.specs.Sorts.{Shape, Sort, Boolean, Byte, Short, Int, Reference, NoValue, sort_by, reference_to, shape_named}
+use Rattle.cjc_script.specs.Sorts.{Shape, Sort, Boolean, Byte, Short, Int, Reference, NoValue, sort_by, reference_to}
+use Rattle.cjc_script.specs.Sorts.{shape_named}
 use Rattle.cjc_world.specs.Classes.{Class}
 use Rattle.cjc_types.specs.declared.cell.Cell.{Cell}
 use Rattle.cjc_types.specs.declared.cell.Cell.TheVariants.{Refs, Unusable}

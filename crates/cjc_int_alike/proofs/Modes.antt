@@ -32,7 +32,8 @@ module _ (files : Files) (image : StaticImage) (near : List MemberId) (tables : 
       (bodies_by_mode files image near tables is_int) (result_in files image near tables is_int) m
   unfolding resolution linked named
   int_begun m h e = subst (λ n. IsIntBegun (linked files image) (look_ups_by_mode files image near tables is_int)
-      (all_classes files) a (bodies_by_mode files image near tables is_int) (result_in files image near tables is_int) n)
+      (all_classes files) a (bodies_by_mode files image near tables is_int) (result_in files image near tables
+      is_int) n)
       (sym h.is) (begun (ap is_int (sym h.is) ∙ e))
     where
       same : body_in files (method_by h.class h.method (Some h.tree)) ≡ body_of h.class h.method h.tree

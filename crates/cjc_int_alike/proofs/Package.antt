@@ -16,7 +16,8 @@ use Rattle.cjc_int_alike.specs.Callees.{IsIntBegun, int_code}
 use Rattle.cjc_int_alike.specs.Calls.{IsIntSupported, CallsAreFew}
 use Rattle.cjc_int_alike.specs.Calls as supported
 use Rattle.cjc_int_alike.specs.Method.{int_body, int_reached}
-use Rattle.cjc_int_alike.specs.Package.{IsSupportedByMode, AreSupportedByMode, IsModePackage, plainly, by_name, by_array}
+use Rattle.cjc_int_alike.specs.Package.{IsSupportedByMode, AreSupportedByMode, IsModePackage, plainly, by_name}
+use Rattle.cjc_int_alike.specs.Package.{by_array}
 use Rattle.cjc_int_alike.specs.Package.{by_return, by_throw, by_call}
 use Rattle.cjc_int_alike.proofs.Callees.{called_by_mode, scripted_by_mode}
 use Rattle.cjc_int_alike.proofs.Points.{method_typed, classes_told}

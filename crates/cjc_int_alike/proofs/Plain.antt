@@ -227,7 +227,8 @@ module _ (by : Linked) (l : Named) (w : List Class) (r : Resolution) (f : Found)
     on_known op n ks left e h =
         subst (λ bs. IsIntRow by l (int_frame f.body) r m (record { references = bs; is_index_inside = inside op }) op
         (kinds l (take n cells) numbers) left locals locals) (sym (references_are l 0 n cells numbers))
-        (subst (λ hs. IsIntRow by l (int_frame f.body) r m (known hs (map is_reference (drop n cells)) (inside op)) op hs
+        (subst (λ hs. IsIntRow by l (int_frame f.body) r m (known hs (map is_reference (drop n cells)) (inside op))
+        op hs
         left locals locals) e h)
 
     on_two : (opcode : ℕ) → takes (jop.Arith opcode) ≡ 2 → Stands (jop.Arith opcode) → (s : Span)
@@ -383,19 +384,25 @@ module _ (by : Linked) (l : Named) (w : List Class) (r : Resolution) (f : Found)
     plain_step _ plain.idiv there = a_row (jop.Arith 0x6C) refl (λ e. cc) refl (on_two 0x6C refl there _
         (rows.idiv_row _ locals (operand numbers 1) (operand numbers 0)))
     plain_step _ plain.irem there = a_row (jop.Arith 0x70) refl (λ e. cc) refl (on_two 0x70 refl there _
-        (rows.irem_row _ locals (operand numbers 1) (operand numbers 0) (word (jop.Arith 0x70) there 1) (word (jop.Arith 0x70) there 0)))
+        (rows.irem_row _ locals (operand numbers 1) (operand numbers 0) (word (jop.Arith 0x70) there 1) (word
+        (jop.Arith 0x70) there 0)))
     plain_step _ plain.ishl there = a_row (jop.Arith 0x78) refl (λ e. cc) refl (on_two 0x78 refl there _
         (rows.ishl_row _ locals (operand numbers 1) (operand numbers 0)))
     plain_step _ plain.ishr there = a_row (jop.Arith 0x7A) refl (λ e. cc) refl (on_two 0x7A refl there _
-        (rows.ishr_row _ locals (operand numbers 1) (operand numbers 0) (word (jop.Arith 0x7A) there 1) (word (jop.Arith 0x7A) there 0)))
+        (rows.ishr_row _ locals (operand numbers 1) (operand numbers 0) (word (jop.Arith 0x7A) there 1) (word
+        (jop.Arith 0x7A) there 0)))
     plain_step _ plain.iushr there = a_row (jop.Arith 0x7C) refl (λ e. cc) refl (on_two 0x7C refl there _
-        (rows.iushr_row _ locals (operand numbers 1) (operand numbers 0) (word (jop.Arith 0x7C) there 1) (word (jop.Arith 0x7C) there 0)))
+        (rows.iushr_row _ locals (operand numbers 1) (operand numbers 0) (word (jop.Arith 0x7C) there 1) (word
+        (jop.Arith 0x7C) there 0)))
     plain_step _ plain.iand there = a_row (jop.Arith 0x7E) refl (λ e. cc) refl (on_two 0x7E refl there _
-        (rows.iand_row _ locals (operand numbers 1) (operand numbers 0) (word (jop.Arith 0x7E) there 1) (word (jop.Arith 0x7E) there 0)))
+        (rows.iand_row _ locals (operand numbers 1) (operand numbers 0) (word (jop.Arith 0x7E) there 1) (word
+        (jop.Arith 0x7E) there 0)))
     plain_step _ plain.ior there = a_row (jop.Arith 0x80) refl (λ e. cc) refl (on_two 0x80 refl there _
-        (rows.ior_row _ locals (operand numbers 1) (operand numbers 0) (word (jop.Arith 0x80) there 1) (word (jop.Arith 0x80) there 0)))
+        (rows.ior_row _ locals (operand numbers 1) (operand numbers 0) (word (jop.Arith 0x80) there 1) (word
+        (jop.Arith 0x80) there 0)))
     plain_step _ plain.ixor there = a_row (jop.Arith 0x82) refl (λ e. cc) refl (on_two 0x82 refl there _
-        (rows.ixor_row _ locals (operand numbers 1) (operand numbers 0) (word (jop.Arith 0x82) there 1) (word (jop.Arith 0x82) there 0)))
+        (rows.ixor_row _ locals (operand numbers 1) (operand numbers 0) (word (jop.Arith 0x82) there 1) (word
+        (jop.Arith 0x82) there 0)))
     plain_step _ plain.ineg there = a_row (jop.Arith 0x74) refl (λ e. cc) refl
         (subst (λ ks. Row (jop.Arith 0x74) ks (Range (neg_row (operand numbers 0)) ∷ []) locals locals)
         (one_number (jop.Arith 0x74) there refl (number_at (jop.Arith 0x74) there 0 (omega arith) (λ c. refl)))
@@ -423,7 +430,8 @@ module _ (by : Linked) (l : Named) (w : List Class) (r : Resolution) (f : Found)
     plain_step _ plain.dup2_x1 there = a_row (jop.Stack 0x5D) refl (λ e. cc) refl (on_known (jop.Stack 0x5D) 3 _ _
         (taken_three (jop.Stack 0x5D) there refl) (rows.dup2_x1_row locals _ _ (cell_at 0) (cell_at 1) (cell_at 2)))
     plain_step _ plain.dup2_x2 there = a_row (jop.Stack 0x5E) refl (λ e. cc) refl (on_known (jop.Stack 0x5E) 4 _ _
-        (taken_four (jop.Stack 0x5E) there refl) (rows.dup2_x2_row locals _ _ (cell_at 0) (cell_at 1) (cell_at 2) (cell_at 3)))
+        (taken_four (jop.Stack 0x5E) there refl) (rows.dup2_x2_row locals _ _ (cell_at 0) (cell_at 1) (cell_at 2)
+        (cell_at 3)))
     plain_step _ plain.swap there = a_row (jop.Stack 0x5F) refl (λ e. cc) refl (on_known (jop.Stack 0x5F) 2 _ _
         (taken_two (jop.Stack 0x5F) there refl) (rows.swap_row locals _ _ (cell_at 0) (cell_at 1)))
     plain_step _ (plain.iload {k = k}) there =

@@ -121,7 +121,11 @@ module _ (files : Files) (image : StaticImage) (near : List MemberId) (tables : 
     resolved_is = ap (by_owner id) found_is
 
     asked : (event : MemberId) → event.desc ≡ id.desc → IsAsked by l id.desc event
-    asked event desc = record { desc = desc; asks = λ kind e. asks files image near tables is_int kind (c.result kind e) }
+    asked event desc = record {
+      desc = desc;
+      asks = λ kind e. asks files image near tables is_int kind (c.result kind
+          e);
+    }
 
     -- what the machine by name does, once the member is found
     looked_up : (op : ℕ) → call_named files w holder op id ≡ call_by files w (select_in w) holder op id c.place c.hit
@@ -356,7 +360,8 @@ module _ (files : Files) (image : StaticImage) (near : List MemberId) (tables : 
       narrow kind of o e = ap (λ b. if b then reached_by code (selected_on files w t.callee (shape_name kind))
           else Nowhere) (t.of (shape_name kind) of) ∙ ap (reached_by code) (t.chooses (shape_name kind) ∙ e)
 
-      choose : (kind : Shape (List ℕ)) → IsIntChoice files image near tables is_int id h.class (shape_name kind) h.choice
+      choose : (kind : Shape (List ℕ)) → IsIntChoice files image near tables is_int id h.class (shape_name kind)
+          h.choice
           → IsSelectedByMode by l w a (bodies_by_mode files image near tables is_int)
           (result_in files image near tables is_int) id t.callee (λ type. if is_subtype w type h.class
           then h.choice type else None) kind

@@ -248,7 +248,8 @@ module _ (by : Linked) (l : Named) (w : List Class) (r : Resolution) (f : Found)
       → StepHere (jop.ANewArray class)
   make_array class there is named spelt =
       let op = jop.ANewArray class in
-      let number = number_at by l w r f m decoded sound at offset cells local_cells x ranged row op there 0 (omega arith)
+      let number = number_at by l w r f m decoded sound at offset cells local_cells x ranged row op there 0 (omega
+      arith)
       (λ c. refl) in
       a_row by l w r f m decoded sound at offset cells local_cells x ranged row op refl (λ e. cc) refl
       (subst (λ ks. RowHere op ks (Refers (is_one_of l (array_of class ∷ [])) ∷ []) locals locals)

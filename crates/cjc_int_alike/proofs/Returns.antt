@@ -124,12 +124,16 @@ module _ (by : Linked) (l : Named) (Here : NMemory → Frame → NFrame → Type
 
         fits : (given_as : Sort) → result_by result.kind result ≡ Some given_as → ResultFits l (results m)
             (Range (operand (spans_of x.stack) 0) ∷ [])
-        fits given_as e = subst (λ o. ResultFits l o (Range (operand (spans_of x.stack) 0) ∷ [])) (sym (gives_it given_as e))
+        fits given_as e = subst (λ o. ResultFits l o (Range (operand (spans_of x.stack) 0) ∷ [])) (sym (gives_it
+            given_as e))
             a_number
 
         by_word : (given_as : Sort) → result_by result.kind result ≡ Some given_as → written.is_short given_as ≡ true
             → Within (operand (spans_of x.stack) 0) (type_range given_as) → Numbers
-        by_word given_as e word inside = (short_return _ given_as _ (frame_result ∙ gives_it given_as e) word inside, fits given_as e)
+        by_word given_as e word inside = (
+          short_return _ given_as _ (frame_result ∙ gives_it given_as e) word inside,
+          fits given_as e,
+        )
 
         go : (k : PartKind) → result.kind ≡ k → returns 0xAC k ≡ true → Numbers
         go kinds.Bool is e = by_word Boolean (result_is kinds.Bool is) refl (within by l w r f m whole.decoded
@@ -201,7 +205,8 @@ module _ (by : Linked) (l : Named) (Here : NMemory → Frame → NFrame → Type
         ∙ ap (λ ks. ks ++ restHere op there) (sym top))
         (reference_return_row shape (frame_result ∙ sort) (is_one_of l is.0)) frame_result
         (subst (λ o. ResultFits l o (Refers (is_one_of l is.0) ∷ [])) (sym sort)
-        (a_reference (passes w l types result.class shape some.1.1 is.0 (ap (is_of w result.class) (sym is.1) ∙ value))))
+        (a_reference (passes w l types result.class shape some.1.1 is.0 (ap (is_of w result.class) (sym is.1) ∙
+        value))))
       where
         reference_return_row : (shape : Shape (List ℕ)) → (int_frame f.body).result ≡ Some (Reference shape)
             → (within : Shape (List ℕ) → Bool) → IsIntReturn by l (int_frame f.body) r m

@@ -256,7 +256,8 @@ module _ (by : Linked) (l : Named) (Here : NMemory → Frame → NFrame → Type
         record {
           within = is_one_of l (caught_type c.class ∷ []);
           passes = caught_within kind may c h.among h.taken;
-          knows = subst (λ o. Knows body (place m.insns o) (Refers (is_one_of l (caught_type c.class ∷ [])) ∷ []) locals)
+          knows = subst (λ o. Knows body (place m.insns o) (Refers (is_one_of l (caught_type c.class ∷ [])) ∷ [])
+              locals)
               h.leads (subst (λ k. Knows body k (Refers (is_one_of l (caught_type c.class ∷ [])) ∷ []) locals)
               (sym (named_place c.target to stands)) (knows to _ _ known));
           has_room = omega (arith, high, one, long, max);

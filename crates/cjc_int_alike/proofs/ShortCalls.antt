@@ -164,11 +164,13 @@ module _ (by : Linked) (l : Named) (w : List Class) (a : Analysis) (bodies : Met
     -- with these below the arguments
     by_stack : (receiver : Option (Shape (List ℕ) → Bool))
         → on_top id.desc ++ below_params receiver [] ≡ kinds l (take (typed.takes call_op) cells) numbers
-        → CallReaches by l (StandsByMode l (table_of l a) bodies) results a.narrowed a.may_throw (class_of m) op id named
+        → CallReaches by l (StandsByMode l (table_of l a) bodies) results a.narrowed a.may_throw (class_of m) op id
+        named
         (types_of id.desc) (given id.desc) receiver → Short call_op
     by_stack receiver is reaches =
         let wider = result_given l result (drop (typed.takes call_op) numbers) desc.result in
-        calls_out op id named (types_of id.desc) (given id.desc) restHere receiver insn (signature_is id.desc desc) stack
+        calls_out op id named (types_of id.desc) (given id.desc) restHere receiver insn (signature_is id.desc desc)
+        stack
         (passes_words l (let d = parts id.desc in d.params) (given id.desc) desc.params passed_int)
         (first_there by l w a m read decoded sound told at offset call_op state x there row ranged insn [] refl)
         (λ ls store vs. (let h = call_written by l (a.resolution m) m op id named names (λ o. 0) insn refl 0 at 0 vs []

@@ -41,7 +41,8 @@ use Rattle.cjc_narrow_proof.proofs.SelectionLaws.Branches.{ireturn as number_out
 use Rattle.cjc_narrow_proof.proofs.SelectionLaws.Branches.{returns as nothing_out}
 use Rattle.cjc_narrow_proof.proofs.TablesLaws.Arrivals.{is_cells}
 use Rattle.cjc_narrow_proof.proofs.TablesLaws.Passed.{word_result}
-use Rattle.cjc_narrow_proof.proofs.TablesLaws.Plain.{t, Stands, IsRow, typed_here, word, within, number_is, reference_is}
+use Rattle.cjc_narrow_proof.proofs.TablesLaws.Plain.{t, Stands, IsRow, typed_here, word, within, number_is}
+use Rattle.cjc_narrow_proof.proofs.TablesLaws.Plain.{reference_is}
 use Rattle.cjc_narrow_proof.proofs.TablesLaws.Plain.{one_number, one_reference}
 use Rattle.cjc_narrow_proof.proofs.TablesLaws.Points.{point_from, point_under}
 use Rattle.cjc_narrow_proof.proofs.TablesLaws.Rows.{first_there, rest, stack_before}

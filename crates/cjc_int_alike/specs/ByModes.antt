@@ -1,5 +1,5 @@
--- The methods of a package, some of them in int mode, with their least tables, what is written for each by its mode, and
--- the look-ups of that code.
+-- The methods of a package, some of them in int mode, with their least tables, what is written for each by its mode,
+-- and the look-ups of that code.
 use Rattle.std.specs.Prelude.{◌≡◌, ℕ, Bool, true, false, List, codes, Option, Some, None}
 use Rattle.std.specs.List.{Contains}
 use Rattle.cjc_bytes.specs.Descriptor.{IsClassName}

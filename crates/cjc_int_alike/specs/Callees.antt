@@ -110,8 +110,8 @@ module _ (by : Linked) (l : Named) (w : List Class) (a : Analysis) (bodies : Met
 
   -- ---- scripts
 
-  -- A member that scripts may call or send: both sides find the same methods of the package, with this descriptor, which
-  -- are sent to objects of the classes that declare them.
+  -- A member that scripts may call or send: both sides find the same methods of the package, with this descriptor,
+  -- which are sent to objects of the classes that declare them.
   pub record IsEnteredByMode (id : MemberId) : Type 0 where
     pub desc : IsIntDesc id.desc
     pub given : AreAsked by l (let types = types_of id.desc in types.params)

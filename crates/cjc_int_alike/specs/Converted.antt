@@ -1,5 +1,5 @@
--- What is asked of a package, some of whose methods are in int mode, so that its class files and the narrow code that is
--- written by modes run alike.
+-- What is asked of a package, some of whose methods are in int mode, so that its class files and the narrow code that
+-- is written by modes run alike.
 use Rattle.std.specs.Prelude.{◌≡◌, ℕ, Bool, true, false, List, slice_get, Some, None}
 use Rattle.std.specs.List.{AllByRecursion}
 use Rattle.cjc_bytes.specs.Descriptor.{IsClassName}
@@ -56,8 +56,8 @@ module _ (files : Files) (image : StaticImage) (near : List MemberId) (tables : 
     a_member : IsIntMember id → IsFoundByMode id
 
   -- Methods in int mode have least tables that break none of their rules, classes have names of classes, and the
-  -- machine's own exceptions are imported. What code in int mode and scripts name is found in the class files and export
-  -- files, and what the image says is of sound types. Each reached instruction of other methods keeps its rule.
+  -- machine's own exceptions are imported. What code in int mode and scripts name is found in the class files and
+  -- export files, and what the image says is of sound types. Each reached instruction of other methods keeps its rule.
   pub record IsConvertedByModes : Type 0 where
     pub int_methods : (m : Method) → is_int m ≡ true → HasIntTables files tables m
     pub names : (name : List ℕ) (c : Class) → class_named (all_classes files) name ≡ Some c → IsClassName name

@@ -42,11 +42,11 @@ pub fn int_methods_are_written()
 {}
 
 /// In a method in int mode whose type table and range table are closed, no instruction of which breaks a rule of types,
-/// no operand one of the rules that bind int mode, and for which there is room, each reached instruction is typed, where
-/// it is supported: constants, loads, stores and increases of locals, arithmetic, the stack's instructions, conversions,
-/// jumps and switches; elements of arrays, with the guard of an index or without; fields, static fields, new objects and
-/// arrays, and types; returns and athrow; and calls, where both sides reach the same. Classes of exceptions are told
-/// alike there.
+/// no operand one of the rules that bind int mode, and for which there is room, each reached instruction is typed,
+/// where it is supported: constants, loads, stores and increases of locals, arithmetic, the stack's instructions,
+/// conversions, jumps and switches; elements of arrays, with the guard of an index or without; fields, static fields,
+/// new objects and arrays, and types; returns and athrow; and calls, where both sides reach the same. Classes of
+/// exceptions are told alike there.
 pub fn int_methods_are_typed()
     ensures typed { (by : Linked) (l : Named) (tb : Table) (bodies : Method → Option IntBody)
         (results : Method → Option Sort) (w : List Class) (r : Resolution) (f : Found) (code : NMethod) (m : Method)
@@ -61,9 +61,9 @@ pub fn int_methods_are_typed()
         → TellsClasses by l (StandsByMode l tb bodies) results tb.narrowed tb.may_throw (int_body l r f code) m }
 {}
 
-/// The least tables of a method of a package in int mode are sound, where no instruction that its types reach breaks one
-/// of 501 to 503, no operand one of 605 and 607 to 609, and there is room (417): both are closed. Its body is one that
-/// was decoded, and the machine by name has it as it was read.
+/// The least tables of a method of a package in int mode are sound, where no instruction that its types reach breaks
+/// one of 501 to 503, no operand one of 605 and 607 to 609, and there is room (417): both are closed. Its body is one
+/// that was decoded, and the machine by name has it as it was read.
 pub fn least_tables_are_sound()
     ensures sound { (files : Files) (code : MethodCode) (class : ClassTree) (method : MethodTree) (tree : CodeTree)
         → IsMethodOf files code class method tree → (types : List (Option State)) (ranges : List (Option RangeState))

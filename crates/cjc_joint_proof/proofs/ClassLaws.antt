@@ -1,5 +1,6 @@
 -- Classes of packages that are loaded together: each means the class of its name, whoever names it.
-use Rattle.std.proofs.Common.{◌≡◌, ℕ, zero, suc, ◌+◌, ◌≤◌, arith, refl, sym, ap, subst, ◌∙◌, Bool, true, false, List, []}
+use Rattle.std.proofs.Common.{◌≡◌, ℕ, zero, suc, ◌+◌, ◌≤◌, arith, refl, sym, ap, subst, ◌∙◌, Bool, true, false, List}
+use Rattle.std.proofs.Common.{[]}
 use Rattle.std.proofs.Common.{◌∷◌, Some, None}
 use Rattle.std.specs.Prelude.{Option, flat_map, is_some, option_map, slice_get, unwrap_or}
 use Rattle.cjc_token_proof.proofs.BytesGets.{get_mapped, mapped_at}
@@ -93,7 +94,8 @@ module _ (packages : List Package) (linked : AreLinked packages) where
 
   same_place : (q r : ℕ) (p m : Package) → slice_get packages q ≡ Some p → slice_get packages r ≡ Some m
       → (let f = p.files in f.package_name) ≡ (let f = m.files in f.package_name) → q ≡ r
-  same_place q r p m here there same = let s = linked.sound in s.names q r p.files m.files (together_at q p here) (together_at
+  same_place q r p m here there same = let s = linked.sound in s.names q r p.files m.files (together_at q p here)
+      (together_at
       r m there) same
 
   pub part_at : (q : ℕ) (p : Package) → slice_get packages q ≡ Some p
@@ -149,7 +151,8 @@ module _ (packages : List Package) (linked : AreLinked packages) where
       kind m list sound there d e false own = absurd (none m d there e own)
       kind m list sound there d e true im =
           let h = has_entry list m sound d (has_named (world m) x d e) im in
-          ap (number_named (let y = part_in (group_of packages) l.trees (member_of m) in y.classes)) (sym (class_named-name
+          ap (number_named (let y = part_in (group_of packages) l.trees (member_of m) in y.classes)) (sym
+          (class_named-name
           (world m) x d e)) ∙ h.has_no_info
 
       by : (m : Package) (list : List ℕ) → IsSound list m.files → slice_get packages r ≡ Some m → (o : Option Class)
@@ -169,7 +172,8 @@ module _ (packages : List Package) (linked : AreLinked packages) where
       class_inside l q (part_in (group_of packages) l.trees (member_of p)) x h.number h.offset (part_at q p here)
       (ap (number_named (let y = part_in (group_of packages) l.trees (member_of p) in y.classes)) (sym name) ∙ h.named)
       h.at (λ r other at apart. name_elsewhere x r other at (λ m d there f im. apart (sym (same_place q r p m here there
-      (sym (home q p here x c e own) ∙ (ap package_of (name ∙ sym (class_named-name (world m) x d f)) ∙ home r m there x d f
+      (sym (home q p here x c e own) ∙ (ap package_of (name ∙ sym (class_named-name (world m) x d f)) ∙ home r m
+      there x d f
       im))))))
       ∙ ap (λ o. Some (Own q o)) (sym (offset_is p c h) ∙ ap (offset_in p) name)
 

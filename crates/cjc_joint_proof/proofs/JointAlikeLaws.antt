@@ -7,7 +7,8 @@ use Rattle.cjc_card_semantics.specs.Bytecode.Alike.{KnownThing, RunsAgree, Setti
 use Rattle.cjc_card_semantics.specs.Bytecode.Effects.{Arm, Ask, Branch, Call, Cast, Do, Get, GetStatic, New, NewNumbers}
 use Rattle.cjc_card_semantics.specs.Bytecode.Effects.{NewReferences, Operation, Pick, Put, PutStatic, Touch, Undone}
 use Rattle.cjc_card_semantics.specs.Bytecode.Machine.{Fetched}
-use Rattle.cjc_card_semantics.specs.Bytecode.Renaming.{KnownOperation, KnownShape, Knows, arm_as, operation_as, option_as}
+use Rattle.cjc_card_semantics.specs.Bytecode.Renaming.{KnownOperation, KnownShape, Knows, arm_as, operation_as}
+use Rattle.cjc_card_semantics.specs.Bytecode.Renaming.{option_as}
 use Rattle.cjc_card_semantics.specs.Bytecode.Renaming.{shape_as}
 use Rattle.cjc_card_semantics.specs.Machine.ByToken.{by_token}
 use Rattle.cjc_card_semantics.specs.Machine.Methods as card
@@ -24,7 +25,8 @@ use Rattle.cjc_ncode.proofs.LoweringLaws.Catching.{handler_found}
 use Rattle.cjc_ncode.proofs.LoweringLaws.Packed.{bytes_stand, handlers_stand}
 use Rattle.cjc_token_proof.specs.Tables.Tables.{ClassTablesAgree}
 use Rattle.cjc_joint_proof.specs.JointCode.{InPackage, JointCalls, by_place_in, fetched_in}
-use Rattle.cjc_joint_proof.specs.JointAlike.{AllHold, IsOfGroup, JointCallsAgree, JointNaming, code_at, joint_names, naming_at}
+use Rattle.cjc_joint_proof.specs.JointAlike.{AllHold, IsOfGroup, JointCallsAgree, JointNaming, code_at, joint_names}
+use Rattle.cjc_joint_proof.specs.JointAlike.{naming_at}
 use Rattle.cjc_joint_proof.specs.JointAlike.{offset_at}
 
 -- ---- renamed twice

@@ -17,7 +17,8 @@ use Rattle.cjc_card_semantics.specs.Machine.ByToken.{by_token}
 use Rattle.cjc_card_semantics.proofs.BytecodeLaws.Together.{runs_agree, runs_stick_alike}
 use Rattle.cjc_token_proof.specs.NCode.ByLabel.{Named, Resolved, by_label}
 use Rattle.cjc_token_proof.specs.NCode.ByLabel
-use Rattle.cjc_token_proof.specs.NCode.Lowering.Agreement.{Cells, IsKnownCall, Memories, MethodsAgree, everything, known_by}
+use Rattle.cjc_token_proof.specs.NCode.Lowering.Agreement.{Cells, IsKnownCall, Memories, MethodsAgree, everything}
+use Rattle.cjc_token_proof.specs.NCode.Lowering.Agreement.{known_by}
 use Rattle.cjc_token_proof.specs.NCode.Lowering.ByPlace.{Methods, by_place}
 use Rattle.cjc_token_proof.specs.NCode.Lowering.Placed.{Placed}
 use Rattle.cjc_token_proof.specs.NCode.declared.narrow.NMethod.{NMethod}

@@ -1,5 +1,5 @@
--- Several packages together on the card: what the names of all are there, and what the tables of classes, tokens, static
--- cells and names have to say of them, for their narrow code and their components to run alike.
+-- Several packages together on the card: what the names of all are there, and what the tables of classes, tokens,
+-- static cells and names have to say of them, for their narrow code and their components to run alike.
 use Rattle.std.specs.Prelude.{◌≡◌, ℕ, Bool, List, Option, Some, slice_get, true}
 use Rattle.cjc_card_semantics.specs.Bytes.declared.fault.MemberId.{MemberId}
 use Rattle.cjc_card_semantics.specs.Script.Sorts.{Shape}

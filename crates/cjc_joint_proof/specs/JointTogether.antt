@@ -1,5 +1,5 @@
--- What packages that are loaded together name on the card: classes by their names, fields and static cells by the package
--- that declares them.
+-- What packages that are loaded together name on the card: classes by their names, fields and static cells by the
+-- package that declares them.
 use Rattle.std.specs.Prelude.{◌≡◌, ℕ, List, [], Option, Some, None, false, slice_get}
 use Rattle.cjc_card_semantics.specs.Bytes.declared.fault.MemberId.{MemberId}
 use Rattle.cjc_card_semantics.specs.CapRead.declared.tree.ClassRef.TheVariants.{Inside}

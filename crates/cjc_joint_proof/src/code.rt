@@ -1,7 +1,7 @@
 //! Narrow code of several packages together, by label and name, where a call names what its package has for the name;
-//! and their components, by token and offset: both run alike where the tables of classes, tokens, static cells and names
-//! agree. Whoever promises that a group runs alike cites it. It has definitions and laws alone, and does not know how
-//! tables or code came to be.
+//! and their components, by token and offset: both run alike where the tables of classes, tokens, static cells and
+//! names agree. Whoever promises that a group runs alike cites it. It has definitions and laws alone, and does not know
+//! how tables or code came to be.
 ghost use Rattle.std.specs.Prelude.{◌≡◌, ℕ, Bool, List};
 ghost use Rattle.cjc_card_semantics.specs.Bytes.declared.fault.MemberId.{MemberId};
 ghost use Rattle.cjc_card_semantics.specs.Bytecode.Alike.{IsFree, KnownState, RunsAgree, RunsStickAlike, state_as};

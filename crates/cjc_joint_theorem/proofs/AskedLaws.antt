@@ -1,6 +1,7 @@
 -- Narrow code of several packages whose calls carry the package that asks runs as the machine that knows the package of
 -- each method.
-use Rattle.std.proofs.Common.{◌≡◌, ℕ, ◌+◌, refl, ap, sym, ◌∙◌, Bool, true, false, List, [], ◌∷◌, map, Option, Some, None, ℤ}
+use Rattle.std.proofs.Common.{◌≡◌, ℕ, ◌+◌, refl, ap, sym, ◌∙◌, Bool, true, false, List, [], ◌∷◌, map, Option, Some}
+use Rattle.std.proofs.Common.{None, ℤ}
 use Rattle.std.specs.Prelude.{option_map, option_and_then, slice_get, nat_le, nat_lt, ◌&&◌, ◌*◌, pos, if◌then◌else◌}
 use Rattle.cjc_bytes.specs.declared.fault.MemberId.{MemberId}
 use Rattle.cjc_bytes.proofs.Gets.{get_mapped}
@@ -8,8 +9,10 @@ use Rattle.cjc_script.specs.Sorts.{Element, Shape, OfClass, OfNumbers, OfReferen
 use Rattle.cjc_script.specs.declared.script.Script.{Script}
 use Rattle.cjc_script.specs.declared.report.Outcome.TheVariants.{Stuck}
 use Rattle.cjc_script.specs.declared.report.Report.{Report}
-use Rattle.cjc_card_semantics.specs.Bytecode.Effects.{Arm, HeapObject, Slot, Do, Branch, Pick, Touch, Get, Put, GetStatic}
-use Rattle.cjc_card_semantics.specs.Bytecode.Effects.{PutStatic, Call, New, NewNumbers, NewReferences, Cast, Ask, Undone}
+use Rattle.cjc_card_semantics.specs.Bytecode.Effects.{Arm, HeapObject, Slot, Do, Branch, Pick, Touch, Get, Put}
+use Rattle.cjc_card_semantics.specs.Bytecode.Effects.{GetStatic}
+use Rattle.cjc_card_semantics.specs.Bytecode.Effects.{PutStatic, Call, New, NewNumbers, NewReferences, Cast, Ask}
+use Rattle.cjc_card_semantics.specs.Bytecode.Effects.{Undone}
 use Rattle.cjc_card_semantics.specs.Bytecode.Meanings.{Meaning, Plain, Branches, Ranged, Paired, Touches, Uses, Casts}
 use Rattle.cjc_card_semantics.specs.Bytecode.Meanings.{CallsInterface, MakesNumbers, Asks, Nothing, Use, Gets, Puts}
 use Rattle.cjc_card_semantics.specs.Bytecode.Meanings.{GetsStatic, PutsStatic, Calls, Makes, MakesReferences, Mode}
@@ -35,7 +38,8 @@ use Rattle.cjc_ncode.specs.declared.narrow.NMethod.{NMethod}
 use Rattle.cjc_ncode.specs.declared.narrow.PoolKey.{PoolKey}
 use Rattle.cjc_ncode.specs.declared.narrow.PoolKey.TheVariants as keys
 use Rattle.cjc_ncode.specs.ByLabel.{Callee, Fixed, OnObject, OnSuper, OnInterface, Named, Resolved, by_label, classes}
-use Rattle.cjc_ncode.specs.ByLabel.{arm_of, ranged, operation, plain, jumping, switching, naming, using, call_if, calling, testing}
+use Rattle.cjc_ncode.specs.ByLabel.{arm_of, ranged, operation, plain, jumping, switching, naming, using, call_if}
+use Rattle.cjc_ncode.specs.ByLabel.{calling, testing}
 use Rattle.cjc_ncode.specs.ByLabel.{type_by, making, element_type, fetch, handler, takes, on_object, put_static}
 use Rattle.cjc_ncode.specs.Lowering.Agreement.{Cells}
 use Rattle.cjc_ncode.proofs.LoweringLaws.ByCode.{option_stays, shape_stays, kind_stays}
@@ -319,7 +323,8 @@ module _ (group : List Files) (image : StaticImage) (one other : Method → NMet
     where
       by : (o : Option NInsn) → slice_get (let m = p.item in m.insns) at ≡ o → fetch (code_by p.part p.item) at
           ≡ Some (fetched_as into_calls p i)
-      by None is = let clash : None ≡ Some i = sym (ap (λ o. option_map (fetched_in p.part) (option_map (shown at) o)) is)
+      by None is = let clash : None ≡ Some i = sym (ap (λ o. option_map (fetched_in p.part) (option_map (shown at)
+          o)) is)
           ∙ e in cc
       by (Some insn) is =
           let found : Some (fetched_in p.part (shown at insn)) ≡ Some i =

@@ -18,7 +18,8 @@ use Rattle.cjc_ncode.specs.declared.narrow.NInsn.TheVariants.{Op, Push, Local, W
 use Rattle.cjc_ncode.specs.declared.narrow.NMethod.{NMethod}
 use Rattle.cjc_ncode.specs.declared.narrow.PairRole.{PairRole}
 use Rattle.cjc_ncode.specs.declared.narrow.PairRole.TheVariants.{Alone, Opens, Closes}
-use Rattle.cjc_ncode.specs.Written.{Resolution, pushed_word, pushed, local, on_stack, switched, static_by, called, call_by}
+use Rattle.cjc_ncode.specs.Written.{Resolution, pushed_word, pushed, local, on_stack, switched, static_by, called}
+use Rattle.cjc_ncode.specs.Written.{call_by}
 use Rattle.cjc_ncode.specs.Written.{type_test, written, Access, accessed, is_load, written_open, on_this, written_as}
 use Rattle.cjc_ncode.specs.Written.{written_for, place_in, reached, catches_at, narrow_code, sources, widest_sum}
 use Rattle.cjc_ncode.specs.Written.{low_of, pair_cases, table_cases, narrow_method}
@@ -88,7 +89,8 @@ module _ (q : ℕ) where
     static_told put f None = refl
 
     call_told : (op : ℕ) (m : MemberId) → call_by (resolved_by q r) op m ≡ map (insn_by q) (call_by r op m)
-    call_told op m = one _ _ (chosen (op == jvm.invokeinterface) _ _ _ _ refl (chosen (op == jvm.invokevirtual) _ _ _ _ refl
+    call_told op m = one _ _ (chosen (op == jvm.invokeinterface) _ _ _ _ refl (chosen (op == jvm.invokevirtual) _ _ _
+        _ refl
         (chosen (op == jvm.invokespecial) _ _ _ _ refl refl)))
 
     module _ (place : ℕ → ℕ) where

@@ -22,7 +22,8 @@ use Rattle.cjc_types.specs.declared.state.State.{State}
 use Rattle.cjc_types.specs.Types.{parts}
 use Rattle.cjc_types.specs.Steps.{takes}
 use Rattle.cjc_types.specs.Flow.{Body}
-use Rattle.cjc_types.specs.Rules.{names_private, is_of, is_value, is_value_of, is_argument, receiver_class, is_field_operand, throwable}
+use Rattle.cjc_types.specs.Rules.{names_private, is_of, is_value, is_value_of, is_argument, receiver_class}
+use Rattle.cjc_types.specs.Rules.{is_field_operand, throwable}
 use Rattle.cjc_types.specs.Rules.{accepts, has_wrong, has_wrong_local, is_wrong_return, is_wrong, Breaks}
 use Rattle.cjc_types.specs.Rules.{clash, wrong, off}
 use Rattle.cjc_types.specs.Tables.{Breach}
@@ -84,7 +85,8 @@ module _ (v w : List Class) (stays : SupersStay v w) where
   of_above class other below (Refs names) e = all_pass (λ name. is_subtype w name class)
       (λ name. is_subtype w name other) (λ name f. transitive w name class other f below) names e
 
-  argument_stays : (b : Body) (opcode : ℕ) (id : MemberId) → is_subtype w (receiver_class v b opcode id) (receiver_class w b opcode id) ≡ true
+  argument_stays : (b : Body) (opcode : ℕ) (id : MemberId) → is_subtype w (receiver_class v b opcode id)
+      (receiver_class w b opcode id) ≡ true
       → (k : ℕ) (cell : Cell) → is_argument v b opcode id k cell ≡ true → is_argument w b opcode id k cell ≡ true
   argument_stays b opcode id below k cell e =
       by (nat_lt k (let d = parts id.desc in length d.params)) e
@@ -108,7 +110,8 @@ module _ (v w : List Class) (stays : SupersStay v w) where
       by false e = of_stays field.class cell e
 
   accepts_stays : (b : Body) (op : JOp) → ((opcode : ℕ) (id : MemberId) → op ≡ jop.Call opcode id
-      → is_subtype w (receiver_class v b opcode id) (receiver_class w b opcode id) ≡ true) → (k : ℕ) (cell : Cell) → accepts v b op k cell ≡ true
+      → is_subtype w (receiver_class v b opcode id) (receiver_class w b opcode id) ≡ true) → (k : ℕ) (cell : Cell) →
+      accepts v b op k cell ≡ true
       → accepts w b op k cell ≡ true
   accepts_stays b jop.Nop calls k cell e = e
   accepts_stays b jop.Null calls k cell e = e
@@ -138,7 +141,8 @@ module _ (v w : List Class) (stays : SupersStay v w) where
   accepts_stays b (jop.InstanceOf class) calls k cell e = e
 
   wrong_stays : (b : Body) (op : JOp) → ((opcode : ℕ) (id : MemberId) → op ≡ jop.Call opcode id
-      → is_subtype w (receiver_class v b opcode id) (receiver_class w b opcode id) ≡ true) → (count k : ℕ) (cells : List Cell)
+      → is_subtype w (receiver_class v b opcode id) (receiver_class w b opcode id) ≡ true) → (count k : ℕ) (cells :
+      List Cell)
       → has_wrong w b op count k cells ≡ true → has_wrong v b op count k cells ≡ true
   wrong_stays b op calls count k [] e = e
   wrong_stays b op calls count k (x ∷ xs) e = wrong_less (nat_lt k count) (accepts v b op k x) (accepts w b op k x)
@@ -146,7 +150,8 @@ module _ (v w : List Class) (stays : SupersStay v w) where
       (wrong_stays b op calls count (k + 1) xs) e
 
   breaks_stay : (b : Body) (op : JOp) → ((opcode : ℕ) (id : MemberId) → op ≡ jop.Call opcode id
-      → is_subtype w (receiver_class v b opcode id) (receiver_class w b opcode id) ≡ true) → (x : State) (rule : ℕ) → Breaks w b op x rule
+      → is_subtype w (receiver_class v b opcode id) (receiver_class w b opcode id) ≡ true) → (x : State) (rule : ℕ) →
+      Breaks w b op x rule
       → Breaks v b op x rule
   breaks_stay b op calls _ _ (clash locals) = clash locals
   breaks_stay b op calls _ _ (wrong s locals e) = wrong s locals (either_less (has_wrong w b op (takes op) 0 s

@@ -88,7 +88,8 @@ pub record AreMembers (members : List Member) : Type 0 where
   pub imports : AreImports (files_of members)
   pub told : TellOwnFields (files_of members) (images_of members)
   pub specials : (q : ℕ) (p : Member) → slice_get members q ≡ Some p → (m : Method) → HasTables p.files p.tables m
-      → SpecialsStay (all_classes p.files) (joint_world (files_of members)) (body_in p.files m) (let t = p.tables in t.types m)
+      → SpecialsStay (all_classes p.files) (joint_world (files_of members)) (body_in p.files m) (let t = p.tables in
+      t.types m)
 
 -- ---- what is left to show of names in code
 
@@ -106,7 +107,8 @@ module _ {files : Files} {image : StaticImage} {near : List MemberId} {tables : 
 
 -- such names in reached instructions stand for what the joint world has
 abbrev pub StandTogether : List Member → Type 0
-StandTogether members = (q : ℕ) (p : Member) → slice_get members q ≡ Some p → (m : Method) → HasTables p.files p.tables m
+StandTogether members = (q : ℕ) (p : Member) → slice_get members q ≡ Some p → (m : Method) → HasTables p.files
+    p.tables m
     → (stack : List Cell) (op : JOp) (h : IsNamed p.files p.image p.near p.tables m stack op) → IsLeft h
     → IsNamedIn (files_of members) (joint_image (images_of members)) (homes_of members) (tables_of members) m stack op
 

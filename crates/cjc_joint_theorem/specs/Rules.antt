@@ -18,7 +18,8 @@ SupersStay v w = (x y : List ℕ) → is_subtype v x y ≡ true → is_subtype w
 
 -- What a reached call takes as its receiver by the first is of the class that it takes by the second.
 abbrev pub CallsStay : List Class → List Class → Body → List (Option State) → Type 0
-CallsStay v w b rows = (place : ℕ) (i : JInsn) (opcode : ℕ) (id : MemberId) (x : State) → slice_get b.insns place ≡ Some i
+CallsStay v w b rows = (place : ℕ) (i : JInsn) (opcode : ℕ) (id : MemberId) (x : State) → slice_get b.insns place ≡
+    Some i
     → HasRow rows place x → i.op ≡ jop.Call opcode id
     → is_subtype w (receiver_class v b opcode id) (receiver_class w b opcode id) ≡ true
 

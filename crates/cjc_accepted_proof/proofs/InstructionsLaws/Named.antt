@@ -44,11 +44,12 @@ module _ (p : Pair) (result : ValueType) (n : Naming) (to : ℕ → ℕ) (at : �
 
   -- what a jump on a condition is
   abbrev pub IsBranch : (op : ℕ) → (two references : Bool) → Type 0
-  IsBranch op two references = (wide : Bool) (label : ℕ) → act_laid p result n to at wide (Jump op label) ≡ record idle {
-    takes = tested_words two references;
-    falls = true;
-    targets = far label ∷ [];
-  }
+  IsBranch op two references = (wide : Bool) (label : ℕ) → act_laid p result n to at wide (Jump op label) ≡ record
+      idle {
+        takes = tested_words two references;
+        falls = true;
+        targets = far label ∷ [];
+      }
 
   pub ifeq_act : IsBranch 0x60 false false
   unfolding row

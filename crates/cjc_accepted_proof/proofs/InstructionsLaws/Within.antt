@@ -1,5 +1,5 @@
--- Rows of reached instructions in pairs that are written as one: the aload_0 that is left out, what stands behind it, and
--- the field instruction that takes the object of local 0.
+-- Rows of reached instructions in pairs that are written as one: the aload_0 that is left out, what stands behind it,
+-- and the field instruction that takes the object of local 0.
 use Rattle.std.proofs.Common.{◌≡◌, ◌⊎◌, ℕ, suc, ◌+◌, ◌<◌, refl, sym, ap, subst, ◌∙◌, arith, Bool, true, false, inl, inr}
 use Rattle.std.proofs.Common.{List, [], ◌∷◌, slice_get, Option, Some, None, Contains}
 use Rattle.std.specs.Prelude.{◌&&◌, ◌||◌, not, nat_le, nat_lt, if◌then◌else◌, ℤ}
@@ -29,7 +29,8 @@ use Rattle.cjc_types.specs.declared.state.Stack.{Stack}
 use Rattle.cjc_types.specs.declared.state.Stack.TheVariants.{Cells, Clash}
 use Rattle.cjc_types.specs.declared.state.State.{State}
 use Rattle.cjc_check_proof.specs.NCode.Lowering.Naming.{Naming}
-use Rattle.cjc_check_proof.specs.NCode.Written.{Resolution, accessed, on_this, place_in, pushed_word, reached, static_by}
+use Rattle.cjc_check_proof.specs.NCode.Written.{Resolution, accessed, on_this, place_in, pushed_word, reached}
+use Rattle.cjc_check_proof.specs.NCode.Written.{static_by}
 use Rattle.cjc_check_proof.specs.NCode.Written.{this_access, written, written_as, written_for, written_open}
 use Rattle.cjc_check_proof.specs.NCode.declared.narrow.NInsn.{NInsn}
 use Rattle.cjc_check_proof.specs.NCode.declared.narrow.NInsn.TheVariants.{Local, Named, Op}
@@ -223,7 +224,8 @@ module _ (card_type : List ℕ → Option (List ℕ)) (is_of : Subtype) (w : Lis
 
     none_row : {o q : Open} {op : JOp} → opened at ≡ o → opened (suc at) ≡ q → i.op ≡ op → written_for r place i ≡ []
         → Under (card_state card_type o x) (card_state card_type q (after op x)) → goes_on op ≡ true → StandsHere
-    none_row {o = o} {q = q} {op = op} before behind is none below goes = row_of_none card_type is_of w r b rows opened step count to at
+    none_row {o = o} {q = q} {op = op} before behind is none below goes = row_of_none card_type is_of w r b rows
+        opened step count to at
         from i x none (subst (λ (u : Open). Under (card_state card_type u x) (card_state card_type (opened (suc at))
         (after i.op x))) (sym before) (subst (λ (u : Open). Under (card_state card_type o x) (card_state card_type u
         (after i.op x))) (sym behind) (subst (λ (z : JOp). Under (card_state card_type o x) (card_state card_type q
@@ -272,7 +274,8 @@ module _ (card_type : List ℕ → Option (List ℕ)) (is_of : Subtype) (w : Lis
           locals = ls;
         })) (card_state card_type pushed (after op (record { stack = Cells t; locals = ls })))) (sym top)
         (pair_row_stands card_type is_of w b count begun pushed op a ls (c ∷ rest) (pushing_inside card_type is_of op a
-        g ls c rest mirrors none put no_writes same d given_one) (subst (λ (t : List Cell). is_off b op ls t ≡ false) top
+        g ls c rest mirrors none put no_writes same d given_one) (subst (λ (t : List Cell). is_off b op ls t ≡ false)
+        top
         (on is)))) goes nowhere
 
     load_row : (c : Cell) (rest : List Cell) → s ≡ c ∷ rest → (refs : Bool) (k : ℕ) → opened at ≡ begun
@@ -297,7 +300,8 @@ module _ (card_type : List ℕ → Option (List ℕ)) (is_of : Subtype) (w : Lis
     pushes_row c rest top (a_local {refs = refs} {k = k}) before behind is role = load_row c rest top refs k before
         behind is role
     pushes_row c rest top (a_constant {named = f} {z = z} known) before behind is role =
-        let number = number_of card_type is_of w p n r b f z known (subst (IsServed card_type is_of w p n r b) is (served at i x there row)) in
+        let number = number_of card_type is_of w p n r b f z known (subst (IsServed card_type is_of w p n r b) is
+        (served at i x there row)) in
         push_row c rest top before behind is role (pushed_word (low_word z)) (ap (static_by r false f) known)
         (pushing (ANumber ∷ [])) (acts.number_act p result n to (to from) (wide from) (low_word z)) (constant_mirrors
         card_type is_of w sv.subtypes b f number ls (c ∷ rest)) refl ANumber refl refl refl Number number refl refl
@@ -312,7 +316,8 @@ module _ (card_type : List ℕ → Option (List ℕ)) (is_of : Subtype) (w : Lis
     get_row : (c : Cell) (rest : List Cell) → s ≡ c ∷ rest → may_hold b.class c ≡ true → (f : MemberId)
         → opened at ≡ begun → opened (suc at) ≡ closed → i.op ≡ jop.Field false f → r.role i.at ≡ Closes → StandsHere
     get_row c rest top h f before behind is role =
-        let sf = field_served card_type is_of w p n r b false f (subst (IsServed card_type is_of w p n r b) is (served at i x there row)) in
+        let sf = field_served card_type is_of w p n r b false f (subst (IsServed card_type is_of w p n r b) is
+        (served at i x there row)) in
         let fits = sf.fits in
         let letter = letter_of (field_sort f.desc) in
         let key = keys.Field (r.field f) in
@@ -338,7 +343,8 @@ module _ (card_type : List ℕ → Option (List ℕ)) (is_of : Subtype) (w : Lis
     put_row : (v c : Cell) (rest : List Cell) → s ≡ v ∷ c ∷ rest → may_hold b.class c ≡ true → (f : MemberId)
         → opened at ≡ pushed → opened (suc at) ≡ closed → i.op ≡ jop.Field true f → r.role i.at ≡ Closes → StandsHere
     put_row v c rest top h f before behind is role =
-        let sf = field_served card_type is_of w p n r b true f (subst (IsServed card_type is_of w p n r b) is (served at i x there row)) in
+        let sf = field_served card_type is_of w p n r b true f (subst (IsServed card_type is_of w p n r b) is (served
+        at i x there row)) in
         let fits = sf.fits in
         let letter = letter_of (field_sort f.desc) in
         let key = keys.Field (r.field f) in

@@ -54,7 +54,8 @@ number_is q (Some p) = refl
 pub runs : (members : List Member) → AreMembers members → StandTogether members → (first : Member)
     → slice_get members 0 ≡ Some first → AreScripted members → (script : Script)
     → Agree 2 (λ n. run_group (files_of members) (images_of members) script n)
-    (λ n. in_packages.run (joint_named (files_of members) (joint_image (images_of members)) (own_codes (homes_of members)
+    (λ n. in_packages.run (joint_named (files_of members) (joint_image (images_of members)) (own_codes (homes_of
+    members)
     (tables_of members))) (joint_labels (files_of members) (own_codes (homes_of members) (tables_of members))) script n)
 runs members is rest first at scripted script = runs_in_packages (files_of members) (images_of members)
     (homes_of members) (tables_of members) (are_converted members is rest first at scripted)

@@ -108,7 +108,8 @@ module _ (members : List Member) (is : AreMembers members) where
           (joint_world group) (supers_stay members is (number_of members m) p.files own.member) (body_in p.files m)
           (tables.types m) (subst (CallsStay (all_classes p.files) (joint_world group) (body_in p.files m))
           (sym (ap (λ o. types_by o m) at)) (specials_do (all_classes p.files)
-          (joint_world group) (body_in p.files m) (let t = p.tables in t.types m) (is.specials (number_of members m) p at m
+          (joint_world group) (body_in p.files m) (let t = p.tables in t.types m) (is.specials (number_of members m)
+          p at m
           has))) place rule breach)));
     }
 

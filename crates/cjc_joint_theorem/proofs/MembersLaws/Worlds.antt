@@ -1,5 +1,6 @@
 -- Classes of the joint world: each has the name of a class, and the machine's own exceptions are imported.
-use Rattle.std.proofs.Common.{◌≡◌, ◌⊎◌, ◌+◌, ℕ, zero, suc, Bool, true, false, ◌&&◌, ◌||◌, not, List, [], ◌∷◌, ◌++◌, Option}
+use Rattle.std.proofs.Common.{◌≡◌, ◌⊎◌, ◌+◌, ℕ, zero, suc, Bool, true, false, ◌&&◌, ◌||◌, not, List, [], ◌∷◌, ◌++◌}
+use Rattle.std.proofs.Common.{Option}
 use Rattle.std.proofs.Common.{Some, None, refl, sym, ap, subst, ◌∙◌, flat_map, inl, inr, arith}
 use Rattle.std.specs.Prelude.{slice_get, if◌then◌else◌, codes}
 use Rattle.std.specs.Str.{bytes_eq}
@@ -13,7 +14,8 @@ use Rattle.cjc_world.specs.Classes.{Class, all_classes, class_named, declared, i
 use Rattle.cjc_world.specs.Files.{Files}
 use Rattle.cjc_world.specs.Subtype.{is_subtype}
 use Rattle.cjc_world.proofs.Cycles.{class_named-name}
-use Rattle.cjc_token_proof.proofs.VTableFiled.{Has, at_front, behind, IsFiled, filed, get-has, has-either, has-get, in_class_file}
+use Rattle.cjc_token_proof.proofs.VTableFiled.{Has, at_front, behind, IsFiled, filed, get-has, has-either, has-get}
+use Rattle.cjc_token_proof.proofs.VTableFiled.{in_class_file}
 use Rattle.cjc_token_proof.proofs.VTableFiled.{in_export_file, of-imports}
 use Rattle.cjc_token_proof.specs.Subset.Members.{imports}
 use Rattle.cjc_jvm_semantics.specs.Effects.{Fault, exception_class}

@@ -259,13 +259,16 @@ module _ (group : List Files) (image : StaticImage) (homes : Homes) (tables : Ta
         ≡ selected_together group c.met type id
     same_select type = met_by (selection_for w c.met type id)
       where
-        met_by : (o : Option Found) → option_and_then (λ f. callee_at files (first_imported (line w (receiver type))) (declared id c) f) o
+        met_by : (o : Option Found) → option_and_then (λ f. callee_at files (first_imported (line w (receiver type)))
+            (declared id c) f) o
             ≡ option_and_then (λ f. callee_at files (first_imported (line w (receiver type))) id f) o
         met_by None = refl
         met_by (Some f) = go f.imported
           where
-            go : (b : Bool) → (if b then Some (linked_by.Abroad (of_class (first_imported (line w (receiver type))) (declared id c))) else option_map Inside
-                (method_at files f)) ≡ (if b then Some (linked_by.Abroad (of_class (first_imported (line w (receiver type))) id)) else option_map Inside
+            go : (b : Bool) → (if b then Some (linked_by.Abroad (of_class (first_imported (line w (receiver type)))
+                (declared id c))) else option_map Inside
+                (method_at files f)) ≡ (if b then Some (linked_by.Abroad (of_class (first_imported (line w (receiver
+                type))) id)) else option_map Inside
                 (method_at files f))
             go true = refl
             go false = refl

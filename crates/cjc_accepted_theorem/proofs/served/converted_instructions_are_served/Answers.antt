@@ -28,7 +28,8 @@ returns c = λ list files judged p is coded above m b.
     let methods = c.converted_methods_are_consistent.ensures in
     let has = methods.methods list files judged p is in
     let kept_files = c.export_files_are_kept.ensures list files judged p is in
-    let known = facts list.name p sound (methods_fit p (methods.small list files judged p is)) kept_files keeps (laws.are_supertypes (world p) keeps.rules.acyclic)
+    let known = facts list.name p sound (methods_fit p (methods.small list files judged p is)) kept_files keeps
+    (laws.are_supertypes (world p) keeps.rules.acyclic)
     (laws.one_supertypes (world p)) (dispatch.virtual_calls (world p) keeps.rules) (dispatch.interface_calls (world p)
     keeps.rules keeps.interfaces) (c.token_laws.ensures (world p) keeps.rules) in
     let of_files = is_of_files list files judged p is in
@@ -42,5 +43,6 @@ returns c = λ list files judged p is coded above m b.
     p laid is.sizes) (c.converted_packages_have_card_types.ensures list files judged p is) named in
     served_at list files judged p is (c.converted_packages_have_their_types.ensures.subtypes list files judged p is)
     described named (c.types_are_known.ensures list files judged p is) met has known
-    (c.converted_methods_begin.ensures list files judged p is) coded kept_files m b (λ id of over holds key. above m b id
+    (c.converted_methods_begin.ensures list files judged p is) coded kept_files m b (λ id of over holds key. above m
+    b id
     of holds key)
