@@ -4,7 +4,7 @@ use Rattle.std.specs.Prelude.{ℕ, zero, suc, ◌+◌, List, [], ◌∷◌, ◌+
 use Rattle.std.specs.Prelude.{if◌then◌else◌}
 use Rattle.std.specs.List.{list_all, slice_split}
 use Rattle.std.specs.Str.{bytes_eq}
-use Rattle.cjc_bytes.specs.AccessFlags.{is_interface, is_private, is_static}
+use Rattle.cjc_bytes.specs.AccessFlags.{is_abstract, is_interface, is_private, is_static}
 use Rattle.cjc_bytes.specs.Breaks.{Break, at, class_spot, each, member_spot}
 use Rattle.cjc_bytes.specs.Descriptor.{is_name_byte}
 use Rattle.cjc_bytes.specs.Order.{FilePlace}
@@ -17,7 +17,7 @@ use Rattle.cjc_world.specs.ExportFile.declared.tree.ExportMethod.{ExportMethod}
 use Rattle.cjc_world.specs.ExportFile.declared.tree.ExportTree.{ExportTree}
 use Rattle.cjc_world.specs.Files.{Files}
 use Rattle.cjc_world.specs.Lookup.{object}
-use Rattle.cjc_subset.specs.Members.{is_initialiser}
+use Rattle.cjc_subset.specs.Members.{is_constructor, is_initialiser}
 use Rattle.cjc_subset.specs.Overriding.{is_open}
 
 -- ---- 301: a name that no class has
@@ -38,12 +38,13 @@ abbrev pub is_of_objects : ExportClass → (name : List ℕ) → Bool
 is_of_objects c name = is_interface c.flags || (bytes_eq c.name object && not (is_initialiser name))
 
 -- private beside public or protected, or an initialiser that is not static, or private or static where it is called on
--- objects of other classes
+-- objects of other classes, or abstract beside static or private, or abstract on a constructor or an initialiser
 abbrev pub is_unfit_listed : (of_objects : Bool) → (flags : ℕ) → (name : List ℕ) → Bool
 is_unfit_listed of_objects flags name =
     (is_private flags && is_open flags)
     || (is_initialiser name && not (is_static flags))
     || (of_objects && (is_private flags || is_static flags))
+    || (is_abstract flags && (is_static flags || is_private flags || is_constructor name || is_initialiser name))
 
 -- ---- what is broken, and where
 

@@ -11,11 +11,11 @@ ghost use Rattle.cjc_bytes.specs.Told.{break_of, file_place_of, spot_of};
 ghost use Rattle.cjc_subset.specs.Exports.{export_breaks, export_file_of, is_class_name, is_name, is_of_objects};
 ghost use Rattle.cjc_subset.specs.Exports.{is_unfit_listed, listed_breaks, listed_class_breaks, listed_method_breaks};
 
-use crate::members::is_initialiser;
+use crate::members::{is_constructor, is_initialiser};
 use crate::overriding::is_open;
 use cjc_bytes::{
-    Break, FileKey, FileLine, FileRef, Part, PlaceRef, RulePlace, broken, first, is_interface,
-    is_private, is_static,
+    Break, FileKey, FileLine, FileRef, Part, PlaceRef, RulePlace, broken, first, is_abstract,
+    is_interface, is_private, is_static,
 };
 use cjc_world::World;
 use cjc_world::export_file::{ExportClass, ExportMethod, ExportTree};
@@ -71,6 +71,11 @@ fn is_unfit_listed(of_objects: bool, flags: u16, name: &[u8]) -> bool
     is_private(flags) && is_open(flags)
         || is_initialiser(name) && !is_static(flags)
         || of_objects && (is_private(flags) || is_static(flags))
+        || is_abstract(flags)
+            && (is_static(flags)
+                || is_private(flags)
+                || is_constructor(name)
+                || is_initialiser(name))
 }
 
 // ---- places
