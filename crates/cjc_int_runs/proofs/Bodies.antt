@@ -101,7 +101,7 @@ method_is_fine by l Here results narrowed may_throw b m h = record {
       q.1.0,
       (
         at_most_767 b.frame b.resolution b.place_of p.before (int_spot b m at) (let i = q.0 in i.op)
-            (λ opcode id types e e'. h.few_params opcode id types at q.0 q.1.0 e e'),
+            (λ opcode id types e e'. h.few_params opcode id types at p q.0 is q.1.0 e e'),
         rule_of by l Here results narrowed may_throw b m at p q.0 q.1.1.0 q.1.1.1,
       ),
     ),

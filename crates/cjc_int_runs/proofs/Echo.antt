@@ -148,11 +148,12 @@ module _ (by : Linked) (l : Named) (tb : Table) (bodies : Method → Option IntB
   typed (suc zero) p i e e' = told 1 _ p _ i (some_same e) (some_same e') last_typed
   typed (suc (suc at)) p i e e' = absurd cc
 
-  no_calls : (opcode : ℕ) (id : MemberId) (types : Signature) (at : ℕ) (i : JInsn) → slice_get echo.insns at
-      ≡ Some i → i.op ≡ jop.Call opcode id → signature_of id.desc ≡ Some types → length types.params ≤ 255
-  no_calls opcode id types zero i e is has_types = absurd cc
-  no_calls opcode id types (suc zero) i e is has_types = absurd cc
-  no_calls opcode id types (suc (suc at)) i e is has_types = absurd cc
+  no_calls : (opcode : ℕ) (id : MemberId) (types : Signature) (at : ℕ) (p : IntPoint) (i : JInsn)
+      → echo_point at ≡ Some p → slice_get echo.insns at ≡ Some i → i.op ≡ jop.Call opcode id
+      → signature_of id.desc ≡ Some types → length types.params ≤ 255
+  no_calls opcode id types zero p i known e is has_types = absurd cc
+  no_calls opcode id types (suc zero) p i known e is has_types = absurd cc
+  no_calls opcode id types (suc (suc at)) p i known e is has_types = absurd cc
 
   pub echo_is_typed : IntMethodIsTyped by l (StandsByMode l tb bodies) results tb.narrowed tb.may_throw echo_body echo
   echo_is_typed = record { typed = typed; few_params = no_calls }

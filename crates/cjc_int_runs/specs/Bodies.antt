@@ -82,5 +82,6 @@ module _ (by : Linked) (l : Named) (Here : NMemory → Frame → NFrame → Type
   pub record IntMethodStands : Type 0 where
     pub stands : (at : ℕ) (p : IntPoint) → b.point at ≡ Some p → (i : JInsn) × ((slice_get m.insns at ≡ Some i)
         × (StandAt b.code (int_spot b m at) (insns at p i) × IntInsn at p i))
-    pub few_params : (opcode : ℕ) (id : MemberId) (types : Signature) (at : ℕ) (i : JInsn) → slice_get m.insns at
-        ≡ Some i → i.op ≡ jop.Call opcode id → signature_of id.desc ≡ Some types → length types.params ≤ 255
+    pub few_params : (opcode : ℕ) (id : MemberId) (types : Signature) (at : ℕ) (p : IntPoint) (i : JInsn)
+        → b.point at ≡ Some p → slice_get m.insns at ≡ Some i → i.op ≡ jop.Call opcode id → signature_of id.desc
+        ≡ Some types → length types.params ≤ 255

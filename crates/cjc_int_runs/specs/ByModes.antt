@@ -20,8 +20,7 @@ use Rattle.cjc_narrow_proof.specs.Selection.Objects.{class_of}
 use Rattle.cjc_narrow_proof.specs.Selection.Relation.{Kind, Range, Refers, NMemory, Stacks, Stores}
 use Rattle.cjc_narrow_proof.specs.Selection.Replies.{ThrowsAlike, may_be_thrown, result_kinds}
 use Rattle.cjc_narrow_proof.specs.Selection.Rows.{HasRoom}
-use Rattle.cjc_narrow_proof.specs.Selection.Runs.{Rule, IsAtPlace, narrow_effect, named_effect}
-use Rattle.cjc_narrow_proof.specs.Selection.Runs as short
+use Rattle.cjc_narrow_proof.specs.Selection.Runs.{IsWithin, Rule, IsAtPlace, narrow_effect, named_effect}
 use Rattle.cjc_narrow_proof.specs.Selection.Tables.{Point, Table, MayRaise, code_of, spot, Arrives, Catches}
 use Rattle.cjc_int_runs.specs.Calls.{onto}
 use Rattle.cjc_int_runs.specs.IntFrames.{IntBody, StandsByMode}
@@ -47,13 +46,6 @@ pub data WordFits (l : Named) : Option Sort → List Kind → Type 0 where
       → WordFits l (Some sort) (Range s ∷ [])
   a_reference_given : {shape : Shape (List ℕ)} {within : Shape (List ℕ) → Bool} → ((of : Shape (List ℕ))
       → within of ≡ true → l.is_of of shape ≡ true) → WordFits l (Some (Reference shape)) (Refers within ∷ [])
-
--- a rule of an instruction that neither calls nor returns
-abbrev pub IsWithin : {by : Linked} {l : Named} {tb : Table} {m : Method} {at : ℕ} {p : Point} {i : JInsn}
-    → Rule by l tb m at p i → Type 0
-IsWithin (short.returns insn kinds written holds wider) = ⊥
-IsWithin (short.calls turn) = ⊥
-IsWithin rule = Unit {0}
 
 module _ (by : Linked) (l : Named) (tb : Table) (bodies : Method → Option IntBody) (results : Method → Option Sort)
   where

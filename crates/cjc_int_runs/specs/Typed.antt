@@ -116,8 +116,9 @@ module _ (by : Linked) (l : Named) (Here : NMemory → Frame → NFrame → Type
   pub record IntMethodIsTyped : Type 0 where
     pub typed : (at : ℕ) (p : IntPoint) (i : JInsn) → b.point at ≡ Some p → slice_get m.insns at ≡ Some i
         → IntTyped at p i
-    pub few_params : (opcode : ℕ) (id : MemberId) (types : Signature) (at : ℕ) (i : JInsn) → slice_get m.insns at
-        ≡ Some i → i.op ≡ jop.Call opcode id → signature_of id.desc ≡ Some types → length types.params ≤ 255
+    pub few_params : (opcode : ℕ) (id : MemberId) (types : Signature) (at : ℕ) (p : IntPoint) (i : JInsn)
+        → b.point at ≡ Some p → slice_get m.insns at ≡ Some i → i.op ≡ jop.Call opcode id → signature_of id.desc
+        ≡ Some types → length types.params ≤ 255
 
   -- Its code is written for some reached instructions, before each of which enough is known.
   pub record IntMethodIsWritten : Type 0 where

@@ -2,7 +2,7 @@
 //! range tables that break no rule, instruction by instruction. It has definitions and laws alone, for whoever proves
 //! that what is written for a package behaves as its class files. It knows no tokens and no components, and not how a
 //! table was computed.
-ghost use Rattle.std.specs.Prelude.{◌≡◌, ◌≢◌, ℕ, suc, ◌+◌, List, [], length, flat_map, slice_get, Option, Some};
+ghost use Rattle.std.specs.Prelude.{◌≡◌, ◌≢◌, ℕ, suc, false, ◌+◌, List, [], length, flat_map, slice_get, Option, Some};
 ghost use Rattle.cjc_code.specs.declared.insn.JInsn.{JInsn};
 ghost use Rattle.cjc_code.specs.declared.insn.JOp.{JOp as Op};
 ghost use Rattle.cjc_code.specs.declared.insn.JOp.TheVariants as jop;
@@ -17,11 +17,11 @@ ghost use Rattle.cjc_ncode.specs.ByLabel.{Named, run as narrow_run};
 ghost use Rattle.cjc_narrow_proof.specs.Selection.Tables.{Point, Arrives, MayRaise};
 ghost use Rattle.cjc_narrow_proof.specs.Selection.Reached.{IsAnswered};
 ghost use Rattle.cjc_narrow_proof.specs.Selection.Calls.{first_locals};
-ghost use Rattle.cjc_narrow_proof.specs.Selection.Runs.{Rule, IsFine};
+ghost use Rattle.cjc_narrow_proof.specs.Selection.Runs.{Rule, RuleWithin, IsFine};
 ghost use Rattle.cjc_script.specs.declared.script.Script.{Script};
 ghost use Rattle.cjc_card_semantics.specs.Bytecode.Runs.{Agree};
 ghost use Rattle.cjc_jvm_semantics.specs.Machine.{run};
-ghost use Rattle.cjc_narrow_proof.specs.Tables.Package.{IsPackage};
+ghost use Rattle.cjc_narrow_proof.specs.Tables.Package.{IsPackage, IsSupported, leaves_frame};
 ghost use Rattle.cjc_narrow_proof.specs.Tables.Analysis.{Analysis, Ascend, IsDecoded, IsSound, IsRead, CatchesAreTold};
 ghost use Rattle.cjc_narrow_proof.specs.Tables.Analysis.{TypesAreTold, IsGiven, ThrowablesMay, HasRoomToBegin};
 ghost use Rattle.cjc_narrow_proof.specs.Tables.Analysis.{declared_kinds, table_of};
@@ -110,6 +110,18 @@ pub fn instructions_keep_rules()
         → slice_get (let f = a.found m in let b = f.body in b.insns) at ≡ Some i
         → (let tb = table_of l a in tb.point m at ≡ Some p) → ((t : Typed) → HasRow (let f = a.found m in f.types) at t
         → IsCalled by l w a m (cells_of t.stack) i.op) → Rule by l (table_of l a) m at p i }
+{}
+
+/// A reached instruction that is supported and neither calls nor returns keeps a rule within its frame, in a pair or
+/// alone: whatever other instructions of the package name, call and return.
+pub fn instructions_keep_rules_within_frames()
+    ensures { (by : Linked) (l : Named) (w : List Class) (a : Analysis) (m : Method) → IsRead a m
+        → IsDecoded (let f = a.found m in f.body) → IsSound w (let r = a.resolution m in r.constant) (a.found m)
+        → CatchesAreTold by l a m → TypesAreTold w l → ClassesAreNamed w l → ThrowablesMay l a
+        → (at : ℕ) (i : JInsn) (p : Point) → slice_get (let f = a.found m in let b = f.body in b.insns) at ≡ Some i
+        → (let tb = table_of l a in tb.point m at ≡ Some p) → leaves_frame i.op ≡ false
+        → ((t : Typed) → HasRow (let f = a.found m in f.types) at t
+        → IsSupported by l w a m (cells_of t.stack) i.op) → RuleWithin by l (table_of l a) m at p i }
 {}
 
 /// A method begins, where narrow code begins, with what its descriptor says: its receiver, if any, and its

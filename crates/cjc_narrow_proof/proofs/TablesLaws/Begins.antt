@@ -157,18 +157,23 @@ module _ (by : Linked) (l : Named) (w : List Class) (a : Analysis) (m : Method) 
         let state = t by l w a m read decoded sound told at offset cells local_cells x ranged in
         let top = one_reference by l w a m read decoded sound told at offset cells local_cells x ranged row jop.Throw
         there refl is.0 is.1 in
-        throws (is_one_of l is.0) (rest by l w a m read decoded sound told at offset jop.Throw state x there row ranged)
-        refl
-        (first_there by l w a m read decoded sound told at offset jop.Throw state x there row ranged (insns.Op 0x93) []
-        refl)
-        (stack_before by l w a m read decoded sound told at offset jop.Throw state x there row ranged
-        ∙ ap (λ ks. ks ++ rest by l w a m read decoded sound told at offset jop.Throw state x there row ranged)
-        (sym top))
-        (λ kind passing. may kind (passes w l types (codes "java/lang/Throwable")
-        (OfClass (codes "java/lang/Throwable")) refl is.0 (all_of is.0 is.1 accepted) kind passing))
-        (catches by l w a m read decoded sound told at
-        (record { at = offset; op = jop.Throw }) state x there row ranged.row
-        (some_written by l w a m read decoded sound told at offset jop.Throw state x there row ranged 0 refl))
+        record {
+          rule = throws (is_one_of l is.0) (rest by l w a m read decoded sound told at offset jop.Throw state x there
+              row ranged)
+              refl
+              (first_there by l w a m read decoded sound told at offset jop.Throw state x there row ranged (insns.Op
+              0x93) []
+              refl)
+              (stack_before by l w a m read decoded sound told at offset jop.Throw state x there row ranged
+              ∙ ap (λ ks. ks ++ rest by l w a m read decoded sound told at offset jop.Throw state x there row ranged)
+              (sym top))
+              (λ kind passing. may kind (passes w l types (codes "java/lang/Throwable")
+              (OfClass (codes "java/lang/Throwable")) refl is.0 (all_of is.0 is.1 accepted) kind passing))
+              (catches by l w a m read decoded sound told at
+              (record { at = offset; op = jop.Throw }) state x there row ranged.row
+              (some_written by l w a m read decoded sound told at offset jop.Throw state x there row ranged 0 refl));
+          is_within = tt;
+        }
       where
         all_of : (names : List (List ℕ)) → typed.operand cells 0 ≡ Refs names
             → is_of w (codes "java/lang/Throwable") (typed.operand cells 0) ≡ true

@@ -41,6 +41,7 @@ use Rattle.cjc_narrow_proof.specs.Selection.Replies.{result_kinds, IsImport}
 use Rattle.cjc_narrow_proof.specs.Selection.Tables.{MayRaise, class_of_code, spot, Arrives}
 use Rattle.cjc_narrow_proof.specs.Selection.Reached.{IsCallAt, MayBeCalled, MayBeAnswered, MaySelectOn, IsAnswered}
 use Rattle.cjc_narrow_proof.specs.Selection.Reached as reached_spec
+use Rattle.cjc_narrow_proof.specs.Selection.Runs.{Rule}
 use Rattle.cjc_narrow_proof.proofs.SelectionLaws.Callees.{call_written}
 use Rattle.cjc_narrow_proof.proofs.SelectionLaws.Reached.{static_rule, import_rule, object_rule}
 use Rattle.cjc_narrow_proof.specs.Tables.Kinds.{is_named, is_one_of, kind_of_cell, kinds, point_of}
@@ -58,7 +59,7 @@ use Rattle.cjc_narrow_proof.proofs.TablesLaws.Passed.{long_from, begins_wider, r
 use Rattle.cjc_narrow_proof.proofs.TablesLaws.Rows.{all_wider_itself, all_wider_through, wider_append}
 use Rattle.cjc_narrow_proof.proofs.TablesLaws.Rows.{first_there, stack_before, rest, roomy_wider, arrives_wider}
 use Rattle.cjc_narrow_proof.proofs.TablesLaws.Rows.{catches_here}
-use Rattle.cjc_narrow_proof.proofs.TablesLaws.Plain.{t, Stands, IsRow, Keeps, typed_here, word, within}
+use Rattle.cjc_narrow_proof.proofs.TablesLaws.Plain.{t, Stands, IsRow, typed_here, word, within}
 use Rattle.cjc_narrow_proof.proofs.TablesLaws.Methods.{wider_length}
 
 -- ---- descriptors
@@ -177,7 +178,8 @@ module _ (by : Linked) (l : Named) (w : List Class) (a : Analysis) (m : Method) 
     (at offset : ℕ) (cells local_cells : List Cell) (x : RangeState) (ranged : IsAlone a m at x)
     (row : IsRow by l w a m read decoded sound told at offset cells local_cells x ranged) where
   abbrev KeepsHere : JOp → Type 0
-  KeepsHere op = Keeps by l w a m read decoded sound told at offset cells local_cells x ranged op
+  KeepsHere op = Rule by l (table_of l a) m at (point_of l (t by l w a m read decoded sound told at offset cells
+      local_cells x ranged) x) (record { at = offset; op = op })
 
   abbrev StandsHere : JOp → Type 0
   StandsHere op = Stands by l w a m read decoded sound told at offset cells local_cells x ranged op

@@ -55,7 +55,7 @@ use Rattle.cjc_narrow_proof.specs.Selection.Rows.{HasRoom, Same, RowAgrees, RowO
 use Rattle.cjc_narrow_proof.specs.Selection.Rows.{FieldIsThere}
 use Rattle.cjc_narrow_proof.specs.Selection.Cells.{MayBePut, IsConstant}
 use Rattle.cjc_narrow_proof.specs.Selection.Tables.{Comes, Table, code_of, spot, written_place}
-use Rattle.cjc_narrow_proof.specs.Selection.Runs.{Rule, does}
+use Rattle.cjc_narrow_proof.specs.Selection.Runs.{RuleWithin, does}
 use Rattle.cjc_narrow_proof.specs.Selection.Runs as rules
 use Rattle.cjc_narrow_proof.specs.Tables.Kinds.{is_one_of, kind_of_cell, kinds, kinds_from, point_at, point_of}
 use Rattle.cjc_narrow_proof.specs.Tables.Analysis.{Analysis, IsDecoded, IsSound, IsRead, CatchesAreTold, TypesAreTold}
@@ -181,7 +181,7 @@ module _ (by : Linked) (l : Named) (w : List Class) (a : Analysis) (m : Method) 
   known = kinds l cells numbers
 
   abbrev Keeps : Open → Type 0
-  Keeps o = Rule by l table m at (with_open o (point_of l t x)) here
+  Keeps o = RuleWithin by l table m at (with_open o (point_of l t x)) here
 
   abbrev place : ℕ → ℕ
   place = written_place table m
@@ -297,24 +297,31 @@ module _ (by : Linked) (l : Named) (w : List Class) (a : Analysis) (m : Method) 
       let k = kind_of_cell l c s in
       let room = subst (λ ks. HasRoom ks m.max_stack (let code = code_of table m in code.max_stack))
       (sym (over_away k known)) (roomy pushed (k ∷ known) goes) in
-      does insn (k ∷ left_away begun known) locals (one_there insn written_here)
-      (λ ls words store memory vs ws stores held stack owns. agrees place insn is (let code = code_of table m
-      in code.max_stack) at (spot table m at + 1) (left_away begun known) vs ws ls words store memory room stores held
-      stack)
-      (λ ls store vs object. never_tosses by m at ls store op calm vs object)
-      (λ ls new_locals words wafter store new_store memory grown vs stack ws wstack owns e f.
-      (let one = one_over by m at ls new_locals store new_store vs stack r op push e in
-      let stay = words_stay l (let code = code_of table m in code.max_stack) (spot table m at + 1) words wafter memory
-      grown ws wstack by r m place op insn push is f in
-      subst (λ ks. Comes table m (at + 1) (spot table m at + 1) ks locals stack wafter) (sym (over_away k known))
-      (subst (λ (words : List (Option Value)). Comes table m (at + 1) (spot table m at + 1) (left_away pushed
-      (k ∷ known))
-      locals stack words) (sym stay)
-      (subst (λ (stack : List Value). Comes table m (at + 1) (spot table m at + 1) (left_away pushed (k ∷ known)) locals
-      stack words) (sym one.1)
-      (comes_open pushed open_behind (spot table m at + 1) (k ∷ known) goes (behind_place 1 on_it (ap length
-      written_here)) (one.0 ∷ vs) words (owns_over k known (cell_on_both l c s (on_both l 0 cells numbers)) owns))))))
-      (catches by l w a m read decoded sound told at here t x there row ranged (some_there insn written_here))
+      record {
+        rule = does insn (k ∷ left_away begun known) locals (one_there insn written_here)
+            (λ ls words store memory vs ws stores held stack owns. agrees place insn is (let code = code_of table m
+            in code.max_stack) at (spot table m at + 1) (left_away begun known) vs ws ls words store memory room stores
+            held
+            stack)
+            (λ ls store vs object. never_tosses by m at ls store op calm vs object)
+            (λ ls new_locals words wafter store new_store memory grown vs stack ws wstack owns e f.
+            (let one = one_over by m at ls new_locals store new_store vs stack r op push e in
+            let stay = words_stay l (let code = code_of table m in code.max_stack) (spot table m at + 1) words wafter
+            memory
+            grown ws wstack by r m place op insn push is f in
+            subst (λ ks. Comes table m (at + 1) (spot table m at + 1) ks locals stack wafter) (sym (over_away k known))
+            (subst (λ (words : List (Option Value)). Comes table m (at + 1) (spot table m at + 1) (left_away pushed
+            (k ∷ known))
+            locals stack words) (sym stay)
+            (subst (λ (stack : List Value). Comes table m (at + 1) (spot table m at + 1) (left_away pushed (k ∷ known))
+            locals
+            stack words) (sym one.1)
+            (comes_open pushed open_behind (spot table m at + 1) (k ∷ known) goes (behind_place 1 on_it (ap length
+            written_here)) (one.0 ∷ vs) words (owns_over k known (cell_on_both l c s (on_both l 0 cells numbers))
+            owns))))))
+            (catches by l w a m read decoded sound told at here t x there row ranged (some_there insn written_here));
+        is_within = tt;
+      }
 
   -- ---- nothing is written
 
@@ -327,12 +334,15 @@ module _ (by : Linked) (l : Named) (w : List Class) (a : Analysis) (m : Method) 
       × Owns words (left_away p ks) on.stack) → Keeps o
   wait_rule o p open_behind on_it none ks goes holds =
       let here_still : spot table m at + 0 ≡ spot table m at = omega arith in
-      rules.goes_on (left_away p ks) (λ ls words store memory vs ws held stack owns. (let h =
-      holds ls words store memory vs ws held stack owns in record {
-        on = h.0;
-        comes = comes_open p open_behind (spot table m at) ks goes (sym here_still ∙ behind_place 0 on_it
-            (ap length none)) h.0.stack words h.1;
-      })) (low on_it)
+      record {
+        rule = rules.goes_on (left_away p ks) (λ ls words store memory vs ws held stack owns. (let h =
+            holds ls words store memory vs ws held stack owns in record {
+              on = h.0;
+              comes = comes_open p open_behind (spot table m at) ks goes (sym here_still ∙ behind_place 0 on_it
+                  (ap length none)) h.0.stack words h.1;
+            })) (low on_it);
+        is_within = tt;
+      }
 
   -- ---- the field instruction takes it
 
@@ -352,21 +362,26 @@ module _ (by : Linked) (l : Named) (w : List Class) (a : Analysis) (m : Method) 
         by_name = omega (arith, by_name, sizes);
         narrow = omega (arith, narrow, sizes);
       }) in
-      does insn ks locals (one_there insn is)
-      (λ ls words store memory vs ws stores held stack owns. holds ls words store memory vs ws room stores held stack
-      owns)
-      (λ ls store vs object. never_tosses by m at ls store op calm vs object)
-      (λ ls new_locals words wafter store new_store memory grown vs stack ws wstack owns e f. comes by l table stack
-      wafter
-      (arrives by l w a m read decoded sound (at + 1) (spot table m at + 1) ks locals open_behind
-      (record {
-        point = goes.point;
-        is = goes.is;
-        stack = all_wider_through wider goes.stack;
-        locals = goes.locals;
-        low = goes.low;
-      }) (behind_place 1 on_it (ap length is))))
-      (catches by l w a m read decoded sound told at here t x there row ranged (some_there insn is))
+      record {
+        rule = does insn ks locals (one_there insn is)
+            (λ ls words store memory vs ws stores held stack owns. holds ls words store memory vs ws room stores held
+            stack
+            owns)
+            (λ ls store vs object. never_tosses by m at ls store op calm vs object)
+            (λ ls new_locals words wafter store new_store memory grown vs stack ws wstack owns e f. comes by l table
+            stack
+            wafter
+            (arrives by l w a m read decoded sound (at + 1) (spot table m at + 1) ks locals open_behind
+            (record {
+              point = goes.point;
+              is = goes.is;
+              stack = all_wider_through wider goes.stack;
+              locals = goes.locals;
+              low = goes.low;
+            }) (behind_place 1 on_it (ap length is))))
+            (catches by l w a m read decoded sound told at here t x there row ranged (some_there insn is));
+        is_within = tt;
+      }
 
 -- ---- each instruction of a pair
 
@@ -386,7 +401,7 @@ module _ (by : Linked) (l : Named) (w : List Class) (a : Analysis) (m : Method) 
   There op = slice_get (let f = a.found m in let b = f.body in b.insns) at ≡ Some (record { at = offset; op = op })
 
   abbrev KeepsIn : Open → JOp → Type 0
-  KeepsIn o op = Rule by l (table_of l a) m at (with_open o (point_of l (record {
+  KeepsIn o op = RuleWithin by l (table_of l a) m at (with_open o (point_of l (record {
     stack = stacks.Cells cells;
     locals = local_cells;
   }) x)) (record { at = offset; op = op })
@@ -688,42 +703,47 @@ module _ (by : Linked) (l : Named) (w : List Class) (a : Analysis) (m : Method) 
 
   -- ---- in its place
 
-  pub pair_rule : TypesAreTold w l → (o p : Open) (role : PairRole) (op : JOp) → There op → Role role
-      → a.opened m at ≡ o → a.opened m (at + 1) ≡ p → IsInPair (a.resolution m) o op role p → Supported op
+  -- what follows of a rule within the frame, and of standing alone
+  pub pair_rule : TypesAreTold w l → (Answer : Open → JOp → Type 0)
+      → ((o : Open) (op : JOp) → KeepsIn o op → Answer o op) → (o p : Open) (role : PairRole) (op : JOp) → There op
+      → Role role → a.opened m at ≡ o → a.opened m (at + 1) ≡ p → IsInPair (a.resolution m) o op role p → Supported op
       → (StandsAlone (a.resolution m) (let f = a.found m in let b = f.body in b.insns) (a.opened m) at
-      → KeepsIn closed op)
-      → KeepsIn o op
-  pair_rule types _ _ _ op there role before behind stands_alone is alone = alone (record {
+      → Answer closed op) → Answer o op
+  pair_rule types Answer answer _ _ _ op there role before behind stands_alone is alone = alone (record {
     before = before;
     alone = λ i e. (let same : record { at = offset; op = op } ≡ i = (let f : Some (record { at = offset; op = op })
         ≡ Some i = sym there ∙ e in cc) in ap (λ (j : JInsn). (let r = a.resolution m in r.role j.at)) (sym same)
         ∙ role);
     behind = behind;
   })
-  pair_rule types _ _ _ _ there role before behind opens is alone = opens_rule there role behind
-  pair_rule types o _ _ _ there role before behind
-      (rules_of.goes_on opened a_nop) is alone = nop_rule o there role behind
-  pair_rule types o _ _ _ there role before behind (rules_of.goes_on opened (a_narrow other))
-      (supported_by.names_nothing
-      plain.i2s) alone = narrow_rule o opened there role behind
-  pair_rule types o _ _ _ there role before behind (rules_of.goes_on opened (a_narrow other))
-      (supported_by.names_nothing
-      plain.i2b) alone = absurd cc
-  pair_rule types o _ _ _ there role before behind (rules_of.goes_on opened (a_narrow other)) (supported_by.is_resolved
-      is) alone = elim is [ ]
-  pair_rule types o _ _ _ there role before behind (rules_of.goes_on opened (a_narrow other)) (supported_by.is_on_array
-      is) alone = elim is [ ]
-  pair_rule types o _ _ _ there role before behind (rules_of.goes_on opened (a_narrow other)) (supported_by.calls is)
-      alone = elim is [ ]
-  pair_rule types _ _ _ op there role before behind (rules_of.pushes push) is alone = pushed_rule op push is there role
-      behind
-  pair_rule types _ _ _ _ there role before behind (gets {f = named}) (supported_by.is_resolved (named_here.a_field desc
-      field)) alone = get_rule types named desc there role behind field
-  pair_rule types _ _ _ _ there role before behind gets (supported_by.names_nothing is) alone = elim is [ ]
-  pair_rule types _ _ _ _ there role before behind gets (supported_by.is_on_array is) alone = elim is [ ]
-  pair_rule types _ _ _ _ there role before behind gets (supported_by.calls is) alone = elim is [ ]
-  pair_rule types _ _ _ _ there role before behind (puts {f = named}) (supported_by.is_resolved (named_here.a_put_field
-      desc field)) alone = put_rule types named desc there role behind field
-  pair_rule types _ _ _ _ there role before behind puts (supported_by.names_nothing is) alone = elim is [ ]
-  pair_rule types _ _ _ _ there role before behind puts (supported_by.is_on_array is) alone = elim is [ ]
-  pair_rule types _ _ _ _ there role before behind puts (supported_by.calls is) alone = elim is [ ]
+  pair_rule types Answer answer _ _ _ _ there role before behind opens is alone =
+      answer closed (jop.Load true 0) (opens_rule there role behind)
+  pair_rule types Answer answer o _ _ _ there role before behind (rules_of.goes_on opened a_nop) is alone =
+      answer o jop.Nop (nop_rule o there role behind)
+  pair_rule types Answer answer o _ _ _ there role before behind (rules_of.goes_on opened (a_narrow other))
+      (supported_by.names_nothing plain.i2s) alone =
+      answer o (jop.Narrow 0x93) (narrow_rule o opened there role behind)
+  pair_rule types Answer answer o _ _ _ there role before behind (rules_of.goes_on opened (a_narrow other))
+      (supported_by.names_nothing plain.i2b) alone = absurd cc
+  pair_rule types Answer answer o _ _ _ there role before behind (rules_of.goes_on opened (a_narrow other))
+      (supported_by.is_resolved is) alone = elim is [ ]
+  pair_rule types Answer answer o _ _ _ there role before behind (rules_of.goes_on opened (a_narrow other))
+      (supported_by.is_on_array is) alone = elim is [ ]
+  pair_rule types Answer answer o _ _ _ there role before behind (rules_of.goes_on opened (a_narrow other))
+      (supported_by.calls is) alone = elim is [ ]
+  pair_rule types Answer answer _ _ _ op there role before behind (rules_of.pushes push) is alone =
+      answer begun op (pushed_rule op push is there role behind)
+  pair_rule types Answer answer _ _ _ _ there role before behind (gets {f = named})
+      (supported_by.is_resolved (named_here.a_field desc field)) alone =
+      answer begun (jop.Field false named) (get_rule types named desc there role behind field)
+  pair_rule types Answer answer _ _ _ _ there role before behind gets (supported_by.names_nothing is) alone =
+      elim is [ ]
+  pair_rule types Answer answer _ _ _ _ there role before behind gets (supported_by.is_on_array is) alone = elim is [ ]
+  pair_rule types Answer answer _ _ _ _ there role before behind gets (supported_by.calls is) alone = elim is [ ]
+  pair_rule types Answer answer _ _ _ _ there role before behind (puts {f = named})
+      (supported_by.is_resolved (named_here.a_put_field desc field)) alone =
+      answer pushed (jop.Field true named) (put_rule types named desc there role behind field)
+  pair_rule types Answer answer _ _ _ _ there role before behind puts (supported_by.names_nothing is) alone =
+      elim is [ ]
+  pair_rule types Answer answer _ _ _ _ there role before behind puts (supported_by.is_on_array is) alone = elim is [ ]
+  pair_rule types Answer answer _ _ _ _ there role before behind puts (supported_by.calls is) alone = elim is [ ]

@@ -44,7 +44,7 @@ use Rattle.cjc_narrow_proof.specs.Selection.Switches.{TwoAgree}
 use Rattle.cjc_narrow_proof.specs.Selection.Tables.{written_place}
 use Rattle.cjc_narrow_proof.proofs.SelectionLaws.Switches.{tableswitch, lookupswitch, empty_table, empty_pairs}
 use Rattle.cjc_narrow_proof.proofs.SelectionLaws.Switches.{entry_among}
-use Rattle.cjc_narrow_proof.specs.Selection.Runs.{Rule}
+use Rattle.cjc_narrow_proof.specs.Selection.Runs.{RuleWithin}
 use Rattle.cjc_narrow_proof.proofs.SelectionLaws.Plain.{iadd, isub, imul, ishl, iand, ior, ixor, ineg}
 use Rattle.cjc_narrow_proof.proofs.SelectionLaws.Divides.{idiv, irem, ishr, iushr, i2b}
 use Rattle.cjc_narrow_proof.proofs.SelectionLaws.Pushes.{aconst_null, constant, iload, aload}
@@ -207,7 +207,7 @@ module _ (by : Linked) (l : Named) (w : List Class) (a : Analysis) (m : Method) 
   IsRow = HasRow (let f = a.found m in f.types) at t
 
   abbrev pub Keeps : JOp → Type 0
-  Keeps op = Rule by l (tb by l w a m read decoded sound) m at (point_of l t x) (record { at = offset; op = op })
+  Keeps op = RuleWithin by l (tb by l w a m read decoded sound) m at (point_of l t x) (record { at = offset; op = op })
 
   abbrev before : (n : ℕ) → List Kind
   before n = kinds l (take n cells) numbers

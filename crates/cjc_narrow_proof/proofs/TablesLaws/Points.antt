@@ -1,5 +1,6 @@
 -- At a point of the table both tables have a row.
-use Rattle.std.proofs.Common.{◌≡◌, ℕ, suc, ◌+◌, refl, sym, ap, subst, ◌∙◌, arith, List, slice_get, Option, Some, None}
+use Rattle.std.proofs.Common.{◌≡◌, ℕ, suc, ◌+◌, true, false, refl, sym, ap, subst, ◌∙◌, arith, List, slice_get}
+use Rattle.std.proofs.Common.{Option, Some, None}
 use Rattle.std.specs.Prelude.{option_map}
 use Rattle.cjc_code.specs.declared.insn.JInsn.{JInsn}
 use Rattle.cjc_code.specs.declared.insn.JOp.{JOp}
@@ -14,7 +15,7 @@ use Rattle.cjc_ncode.specs.ByLabel.{Named}
 use Rattle.cjc_jvm_semantics.specs.Linked.{Method, Linked}
 use Rattle.cjc_intervals.specs.Frames.{RangeState}
 use Rattle.cjc_narrow_proof.specs.Selection.Tables.{Point}
-use Rattle.cjc_narrow_proof.specs.Selection.Runs.{Rule}
+use Rattle.cjc_narrow_proof.specs.Selection.Runs.{Rule, RuleWithin}
 use Rattle.cjc_narrow_proof.specs.Tables.Kinds.{point_at, point_of, point_where}
 use Rattle.cjc_narrow.specs.Pairs.Open.{Open, closed}
 use Rattle.cjc_narrow_proof.specs.Tables.Pairs.{IsInPair, StandsAlone, with_open}
@@ -25,8 +26,8 @@ use Rattle.cjc_narrow_proof.specs.Tables.Analysis.{IsGiven, ThrowablesMay, table
 use Rattle.cjc_narrow_proof.specs.Tables.Supported.{IsPlain, IsReturn, ireturn, areturn, returns}
 use Rattle.cjc_narrow_proof.specs.Tables.Names.{IsResolved}
 use Rattle.cjc_narrow_proof.specs.Tables.Arrays.{ClassesAreNamed, IsOnArray}
-use Rattle.cjc_narrow_proof.specs.Tables.Calls.{IsCalled}
-use Rattle.cjc_narrow_proof.specs.Tables.Package.{IsSupported, AreSupported}
+use Rattle.cjc_narrow_proof.specs.Tables.Calls.{IsCalled, a_static, an_import, on_receiver}
+use Rattle.cjc_narrow_proof.specs.Tables.Package.{IsSupported, AreSupported, leaves_frame}
 use Rattle.cjc_narrow_proof.specs.Tables.Package as supported_by
 use Rattle.cjc_narrow_proof.proofs.TablesLaws.Elements.{on_array}
 use Rattle.cjc_narrow_proof.proofs.TablesLaws.Called.{called_rule}
@@ -73,6 +74,12 @@ point_from l (Some (Some t)) (Some (Some x)) p e = record {
   is = (let same : point_of l t x ≡ p = cc in sym same);
 }
 
+call_leaves : (by : Linked) (l : Named) (w : List Class) (a : Analysis) (m : Method) (cells : List Cell) (op : JOp)
+    → IsCalled by l w a m cells op → leaves_frame op ≡ true
+call_leaves by l w a m cells _ (a_static named is callee by_name narrow reached) = refl
+call_leaves by l w a m cells _ (an_import named is event by_name narrow asked) = refl
+call_leaves by l w a m cells _ (on_receiver named is selects) = refl
+
 module _ (by : Linked) (l : Named) (w : List Class) (a : Analysis) (m : Method) (read : IsRead a m)
     (decoded : IsDecoded (let f = a.found m in f.body)) (sound : IsSound w (let r = a.resolution m
     in r.constant) (a.found m)) (told : CatchesAreTold by l a m) where
@@ -104,9 +111,8 @@ module _ (by : Linked) (l : Named) (w : List Class) (a : Analysis) (m : Method) 
       → slice_get (let f = a.found m in let b = f.body in b.insns) at
       ≡ Some i → (let tb = table_of l a in tb.point m at ≡ Some p) → IsPlain i.op → Rule by l (table_of l a) m at p i
   plain_rule at i p alone there known is =
-      at_point at i p alone known (λ cells local_cells x ranged row. keeps by l w a m read decoded sound told at i.at
-      cells
-      local_cells x ranged row i.op is there)
+      at_point at i p alone known (λ cells local_cells x ranged row. (let r = keeps by l w a m read decoded sound
+      told at i.at cells local_cells x ranged row i.op is there in r.rule))
 
   pub resolved_rule : TypesAreTold w l → (at : ℕ) (i : JInsn) (p : Point)
       → StandsAlone (a.resolution m) (let f = a.found m in let b = f.body in b.insns) (a.opened m) at
@@ -115,10 +121,11 @@ module _ (by : Linked) (l : Named) (w : List Class) (a : Analysis) (m : Method) 
       → ((t : State) → HasRow (let f = a.found m in f.types) at t
       → IsResolved by l (a.resolution m) m (cells_of t.stack) i.op) → Rule by l (table_of l a) m at p i
   resolved_rule types at i p alone there known is =
-      at_point at i p alone known (λ cells local_cells x ranged row. resolved by l w a m read decoded sound told
-      types at i.at
-      cells local_cells x ranged row i.op (is (record { stack = stacks.Cells cells; locals = local_cells }) row)
-      there)
+      at_point at i p alone known (λ cells local_cells x ranged row. (let r = resolved by l w a m read decoded
+      sound told types at i.at cells local_cells x ranged row i.op (is (record {
+        stack = stacks.Cells cells;
+        locals = local_cells;
+      }) row) there in r.rule))
 
   -- the opcode is one of the three returns
   pub return_rule : TypesAreTold w l → IsGiven l a m → (at offset opcode : ℕ) (p : Point)
@@ -149,18 +156,16 @@ module _ (by : Linked) (l : Named) (w : List Class) (a : Analysis) (m : Method) 
         op = jop.Throw;
       })
   throw_rule types may at offset p alone there known =
-      at_point at _ p alone known (λ cells local_cells x ranged row. throws_on by l w a m read decoded sound told
-      types may at
-      offset cells local_cells x ranged row there)
+      at_point at _ p alone known (λ cells local_cells x ranged row. (let r = throws_on by l w a m read decoded
+      sound told types may at offset cells local_cells x ranged row there in r.rule))
 
   pub array_rule : TypesAreTold w l → ClassesAreNamed w l → (at : ℕ) (i : JInsn) (p : Point)
       → StandsAlone (a.resolution m) (let f = a.found m in let b = f.body in b.insns) (a.opened m) at
       → slice_get (let f = a.found m in let b = f.body in b.insns) at ≡ Some i
       → (let tb = table_of l a in tb.point m at ≡ Some p) → IsOnArray i.op → Rule by l (table_of l a) m at p i
   array_rule types named at i p alone there known is =
-      at_point at i p alone known (λ cells local_cells x ranged row. on_array by l w a m read decoded sound told
-      types named
-      at i.at cells local_cells x ranged row i.op is there)
+      at_point at i p alone known (λ cells local_cells x ranged row. (let r = on_array by l w a m read decoded
+      sound told types named at i.at cells local_cells x ranged row i.op is there in r.rule))
 
   pub call_rule : TypesAreTold w l → MayRaise l (table_of l a) → IsAnswered by l (table_of l a)
       → (at : ℕ) (i : JInsn) (p : Point) → StandsAlone (a.resolution m)
@@ -176,6 +181,27 @@ module _ (by : Linked) (l : Named) (w : List Class) (a : Analysis) (m : Method) 
         locals = local_cells;
       }) row) there)
 
+  -- each instruction that is supported and stays in the frame
+  stays_here : TypesAreTold w l → ClassesAreNamed w l → ThrowablesMay l a → (at offset : ℕ)
+      (cells local_cells : List Cell) (x : RangeState) (ranged : IsAlone a m at x)
+      → HasRow (let f = a.found m in f.types) at (record { stack = stacks.Cells cells; locals = local_cells })
+      → (op : JOp) → IsSupported by l w a m cells op → leaves_frame op ≡ false
+      → slice_get (let f = a.found m in let b = f.body in b.insns) at ≡ Some (record { at = offset; op = op })
+      → RuleWithin by l (table_of l a) m at (point_of l (record { stack = stacks.Cells cells; locals = local_cells }) x)
+      (record { at = offset; op = op })
+  stays_here types named may at offset cells local_cells x ranged row op (supported_by.names_nothing is) stays there =
+      keeps by l w a m read decoded sound told at offset cells local_cells x ranged row op is there
+  stays_here types named may at offset cells local_cells x ranged row op (supported_by.is_resolved is) stays there =
+      resolved by l w a m read decoded sound told types at offset cells local_cells x ranged row op is there
+  stays_here types named may at offset cells local_cells x ranged row op (supported_by.is_on_array is) stays there =
+      on_array by l w a m read decoded sound told types named at offset cells local_cells x ranged row op is there
+  stays_here types named may at offset cells local_cells x ranged row _ (supported_by.returns is) stays there =
+      absurd cc
+  stays_here types named may at offset cells local_cells x ranged row _ supported_by.throws stays there =
+      throws_on by l w a m read decoded sound told types may at offset cells local_cells x ranged row there
+  stays_here types named may at offset cells local_cells x ranged row op (supported_by.calls is) stays there =
+      let clash : true ≡ false = sym (call_leaves by l w a m cells op is) ∙ stays in absurd cc
+
   -- each instruction that is supported
   supported_here : TypesAreTold w l → ClassesAreNamed w l → IsGiven l a m → ThrowablesMay l a
       → MayRaise l (table_of l a) → IsAnswered by l (table_of l a) → (at offset : ℕ) (cells local_cells : List Cell)
@@ -186,14 +212,14 @@ module _ (by : Linked) (l : Named) (w : List Class) (a : Analysis) (m : Method) 
       → Rule by l (table_of l a) m at (point_of l (record { stack = stacks.Cells cells; locals = local_cells }) x)
       (record { at = offset; op = op })
   supported_here types named given may may_raise answered at offset cells local_cells x ranged row op
-      (supported_by.names_nothing is) there = keeps by l w a m read decoded sound told at offset cells local_cells x
-      ranged row op is there
+      (supported_by.names_nothing is) there = (let r = keeps by l w a m read decoded sound told at offset cells
+      local_cells x ranged row op is there in r.rule)
   supported_here types named given may may_raise answered at offset cells local_cells x ranged row op
-      (supported_by.is_resolved is) there = resolved by l w a m read decoded sound told types at offset cells
-      local_cells x ranged row op is there
+      (supported_by.is_resolved is) there = (let r = resolved by l w a m read decoded sound told types at offset cells
+      local_cells x ranged row op is there in r.rule)
   supported_here types named given may may_raise answered at offset cells local_cells x ranged row op
-      (supported_by.is_on_array is) there = on_array by l w a m read decoded sound told types named at offset cells
-      local_cells x ranged row op is there
+      (supported_by.is_on_array is) there = (let r = on_array by l w a m read decoded sound told types named at offset
+      cells local_cells x ranged row op is there in r.rule)
   supported_here types named given may may_raise answered at offset cells local_cells x ranged row _
       (supported_by.returns ireturn) there = number_return by l w a m read decoded sound told types given at offset
       cells local_cells x ranged row there
@@ -204,31 +230,67 @@ module _ (by : Linked) (l : Named) (w : List Class) (a : Analysis) (m : Method) 
       (supported_by.returns returns) there = plain_return by l w a m read decoded sound told types given at offset cells
       local_cells x ranged row there
   supported_here types named given may may_raise answered at offset cells local_cells x ranged row _ supported_by.throws
-      there = throws_on by l w a m read decoded sound told types may at offset cells local_cells x ranged row there
+      there = (let r = throws_on by l w a m read decoded sound told types may at offset cells local_cells x ranged row
+      there in r.rule)
   supported_here types named given may may_raise answered at offset cells local_cells x ranged row op
       (supported_by.calls is) there = called_rule by l w a m read decoded sound told types may_raise answered at offset
       cells local_cells x ranged row op is there
 
-  -- in a pair or alone
+  -- ---- in a pair or alone
+
+  -- what follows of a rule within the frame, and of standing alone
+  module _ (types : TypesAreTold w l) (Answer : (p : Point) → JInsn → Type 0) (at : ℕ)
+      (answer : (p : Point) (i : JInsn) → RuleWithin by l (table_of l a) m at p i → Answer p i) where
+    either_way : (i : JInsn) (p : Point) → slice_get (let f = a.found m in let b = f.body in b.insns) at ≡ Some i
+        → (let tb = table_of l a in tb.point m at ≡ Some p)
+        → ((t : State) → HasRow (let f = a.found m in f.types) at t → IsSupported by l w a m (cells_of t.stack) i.op)
+        → ((cells local_cells : List Cell) (x : RangeState) → (ranged : IsAlone a m at x)
+        → HasRow (let f = a.found m in f.types) at (record { stack = stacks.Cells cells; locals = local_cells })
+        → IsSupported by l w a m cells i.op
+        → Answer (point_of l (record { stack = stacks.Cells cells; locals = local_cells }) x) i) → Answer p i
+    either_way i p there known supported alone_too =
+        let f = a.found m in
+        let q = point_under (point_at l f.types f.ranges at) (a.opened m at) p known in
+        let h = point_from l (slice_get f.types at) (slice_get f.ranges at) q.0 q.1 in
+        let t = h.typed in
+        let cells = is_cells l w (let r = a.resolution m in r.constant) f sound at t h.has_types in
+        let whole : HasRow f.types at (record { stack = stacks.Cells (cells_of t.stack); locals = t.locals }) =
+        subst (λ s. HasRow f.types at (record { stack = s; locals = t.locals })) cells h.has_types in
+        let is = supported (record { stack = stacks.Cells (cells_of t.stack); locals = t.locals }) whole in
+        let one : suc at ≡ at + 1 = omega arith in
+        let pair = subst (λ n. IsInPair (a.resolution m) (a.opened m at) i.op (let r = a.resolution m in r.role i.at)
+        (a.opened m n)) one (read.pairs.each at i t there h.has_types) in
+        subst (λ p. Answer p i) (sym (q.2 ∙ ap (with_open (a.opened m at)) h.is))
+        (pair_rule by l w a m read decoded sound told at i.at
+        (cells_of t.stack) t.locals h.ranged whole h.has_ranges types
+        (λ o op. Answer (with_open o (point_of l (record {
+          stack = stacks.Cells (cells_of t.stack);
+          locals = t.locals;
+        }) h.ranged)) (record { at = i.at; op = op }))
+        (λ o op r. answer (with_open o (point_of l (record {
+          stack = stacks.Cells (cells_of t.stack);
+          locals = t.locals;
+        }) h.ranged)) (record { at = i.at; op = op }) r)
+        (a.opened m at) (a.opened m (at + 1)) (let r = a.resolution m in r.role i.at) i.op there refl refl refl pair is
+        (λ alone. alone_too (cells_of t.stack) t.locals h.ranged (record { row = h.has_ranges; stands = alone }) whole
+        is))
+
   pub rule_at : TypesAreTold w l → ClassesAreNamed w l → IsGiven l a m → ThrowablesMay l a
       → MayRaise l (table_of l a) → IsAnswered by l (table_of l a) → AreSupported by l w a m
       → (at : ℕ) (i : JInsn) (p : Point) → slice_get (let f = a.found m in let b = f.body in b.insns) at ≡ Some i
       → (let tb = table_of l a in tb.point m at ≡ Some p) → Rule by l (table_of l a) m at p i
   rule_at types named given may may_raise answered supported at i p there known =
-      let f = a.found m in
-      let q = point_under (point_at l f.types f.ranges at) (a.opened m at) p known in
-      let h = point_from l (slice_get f.types at) (slice_get f.ranges at) q.0 q.1 in
-      let t = h.typed in
-      let cells = is_cells l w (let r = a.resolution m in r.constant) f sound at t h.has_types in
-      let whole : HasRow f.types at (record { stack = stacks.Cells (cells_of t.stack); locals = t.locals }) =
-      subst (λ s. HasRow f.types at (record { stack = s; locals = t.locals })) cells h.has_types in
-      let is = supported at i (record { stack = stacks.Cells (cells_of t.stack); locals = t.locals }) there whole in
-      let one : suc at ≡ at + 1 = omega arith in
-      let pair = subst (λ n. IsInPair (a.resolution m) (a.opened m at) i.op (let r = a.resolution m in r.role i.at)
-      (a.opened m n)) one (read.pairs.each at i t there h.has_types) in
-      subst (λ p. Rule by l (table_of l a) m at p i) (sym (q.2 ∙ ap (with_open (a.opened m at)) h.is))
-      (pair_rule by l w a m read decoded sound told at i.at
-      (cells_of t.stack) t.locals h.ranged whole h.has_ranges types
-      (a.opened m at) (a.opened m (at + 1)) (let r = a.resolution m in r.role i.at) i.op there refl refl refl pair is
-      (λ alone. supported_here types named given may may_raise answered at i.at (cells_of t.stack) t.locals h.ranged
-      (record { row = h.has_ranges; stands = alone }) whole i.op is there))
+      either_way types (λ p i. Rule by l (table_of l a) m at p i) at (λ p i r. r.rule) i p there known
+      (λ t row. supported at i t there row) (λ cells local_cells x ranged row is. supported_here types named given may
+      may_raise answered at i.at cells local_cells x ranged row i.op is there)
+
+  -- the same of an instruction that stays in the frame, whatever the others are
+  pub within_at : TypesAreTold w l → ClassesAreNamed w l → ThrowablesMay l a → (at : ℕ) (i : JInsn) (p : Point)
+      → slice_get (let f = a.found m in let b = f.body in b.insns) at ≡ Some i
+      → (let tb = table_of l a in tb.point m at ≡ Some p) → leaves_frame i.op ≡ false
+      → ((t : State) → HasRow (let f = a.found m in f.types) at t → IsSupported by l w a m (cells_of t.stack) i.op)
+      → RuleWithin by l (table_of l a) m at p i
+  within_at types named may at i p there known stays supported =
+      either_way types (λ p i. RuleWithin by l (table_of l a) m at p i) at (λ p i r. r) i p there known supported
+      (λ cells local_cells x ranged row is. stays_here types named may at i.at cells local_cells x ranged row i.op is
+      stays there)

@@ -33,7 +33,7 @@ use Rattle.cjc_narrow_proof.specs.Tables.Analysis.{IsGiven}
 use Rattle.cjc_narrow_proof.proofs.TablesLaws.Values.{result_wider}
 use Rattle.cjc_narrow_proof.proofs.TablesLaws.Methods.{tb}
 use Rattle.cjc_narrow_proof.proofs.TablesLaws.Rows.{first_there, before, rest, stack_before}
-use Rattle.cjc_narrow_proof.proofs.TablesLaws.Plain.{t, numbers, Stands, IsRow, Keeps, typed_here, word, within}
+use Rattle.cjc_narrow_proof.proofs.TablesLaws.Plain.{t, numbers, Stands, IsRow, typed_here, word, within}
 use Rattle.cjc_narrow_proof.proofs.TablesLaws.Plain.{number_is, reference_is, one_number, one_reference}
 
 -- the results of a return are of its kind
@@ -77,7 +77,8 @@ module _ (by : Linked) (l : Named) (w : List Class) (a : Analysis) (m : Method) 
   result = let f = a.found m in let b = f.body in (parts b.desc).result
 
   abbrev KeepsHere : (opcode : ℕ) → Type 0
-  KeepsHere opcode = Keeps by l w a m read decoded sound told at offset cells local_cells x ranged (jop.Return opcode)
+  KeepsHere opcode = Rule by l (tb by l w a m read decoded sound) m at (point_of l (t by l w a m read decoded sound told
+      at offset cells local_cells x ranged) x) (record { at = offset; op = jop.Return opcode })
 
   abbrev StandsHere : (opcode : ℕ) → Type 0
   StandsHere opcode = Stands by l w a m read decoded sound told at offset cells local_cells x ranged (jop.Return opcode)

@@ -31,7 +31,7 @@ use Rattle.cjc_narrow_proof.specs.Selection.Jumps.{JumpAgrees}
 use Rattle.cjc_narrow_proof.specs.Selection.Switches.{TwoAgree}
 use Rattle.cjc_jvm_semantics.specs.Effects.{Store, Go, effect, place}
 use Rattle.cjc_narrow_proof.specs.Selection.Tables.{written_place, spot, Arrives, Catches}
-use Rattle.cjc_narrow_proof.specs.Selection.Runs.{Rule}
+use Rattle.cjc_narrow_proof.specs.Selection.Runs.{RuleWithin}
 use Rattle.cjc_narrow_proof.proofs.SelectionLaws.KeptRows.{row_rule, on_locals_rule, jump_rule, not_written_rule}
 use Rattle.cjc_narrow_proof.proofs.SelectionLaws.KeptRows.{two_rule}
 use Rattle.cjc_narrow_proof.specs.Tables.Kinds.{kinds, kinds_from, point_of}
@@ -115,7 +115,7 @@ module _ (by : Linked) (l : Named) (w : List Class) (a : Analysis) (m : Method) 
   locals_behind = kinds l (typed.locals_after op t.locals t.stack) (locals_after op x.locals x.stack)
 
   abbrev Keeps : Type 0
-  Keeps = Rule by l (tb by l w a m read decoded sound) m at (point_of l t x) insn_here
+  Keeps = RuleWithin by l (tb by l w a m read decoded sound) m at (point_of l t x) insn_here
 
   pub stack_before : kinds l cells numbers ≡ before ++ rest
   stack_before = let h = is_typed l w (let r = a.resolution m in r.constant) (a.found m) sound at insn_here t there row

@@ -126,6 +126,19 @@ module _ (by : Linked) (l : Named) (tb : Table) (m : Method) (at : ℕ) (p : Poi
         others → Both by l tb (step by (f ∷ outer) s) (narrow_step (by_label l) (g ∷ others) t))
         → Rule
 
+-- a rule of an instruction that neither calls nor returns
+abbrev pub IsWithin : {by : Linked} {l : Named} {tb : Table} {m : Method} {at : ℕ} {p : Point} {i : JInsn}
+    → Rule by l tb m at p i → Type 0
+IsWithin (returns insn kinds written holds wider) = ⊥
+IsWithin (calls turn) = ⊥
+IsWithin rule = Unit {0}
+
+-- What both machines do at an instruction that neither calls nor returns.
+pub record RuleWithin (by : Linked) (l : Named) (tb : Table) (m : Method) (at : ℕ) (p : Point) (i : JInsn) : Type 0
+  where
+    pub rule : Rule by l tb m at p i
+    pub is_within : IsWithin rule
+
 -- ---- entries
 
 -- Both machines begin the entry's method, before anything is noted; or both are over.

@@ -1,6 +1,6 @@
 -- A package as whole runs ask it: which of its methods are reached, what their instructions name, and what scripts may
 -- call.
-use Rattle.std.specs.Prelude.{◌≡◌, ℕ, true, false, List, slice_get, Some, option_map}
+use Rattle.std.specs.Prelude.{◌≡◌, ℕ, Bool, true, false, List, slice_get, Some, option_map}
 use Rattle.cjc_bytes.specs.declared.fault.MemberId.{MemberId}
 use Rattle.cjc_code.specs.declared.insn.JInsn.{JInsn}
 use Rattle.cjc_code.specs.declared.insn.JOp.{JOp}
@@ -34,6 +34,12 @@ pub data IsSupported (by : Linked) (l : Named) (w : List Class) (a : Analysis) (
   returns : {opcode : ℕ} → IsReturn opcode → IsSupported by l w a m cells (jop.Return opcode)
   throws : IsSupported by l w a m cells jop.Throw
   calls : {op : JOp} → IsCalled by l w a m cells op → IsSupported by l w a m cells op
+
+-- a call or a return: with these the frame changes
+abbrev pub leaves_frame : JOp → Bool
+leaves_frame (jop.Return opcode) = true
+leaves_frame (jop.Call opcode id) = true
+leaves_frame op = false
 
 -- each reached instruction of a method
 abbrev pub AreSupported : Linked → Named → List Class → Analysis → Method → Type 0
