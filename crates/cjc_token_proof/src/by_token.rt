@@ -15,9 +15,9 @@ ghost use Rattle.cjc_ncode.specs.Lowering.Naming.{Naming, field};
 ghost use Rattle.cjc_token_proof.specs.ByToken.Above.{IsAtOrAbove};
 ghost use Rattle.cjc_token_proof.specs.ByToken.Cells.{CellsAgree, HasCells, Order};
 ghost use Rattle.cjc_token_proof.specs.ByToken.Classes.{Names, SaysClasses, memories, tests};
-ghost use Rattle.cjc_token_proof.specs.ByToken.Names.{HasLang, NamesAgree, SaysNames};
+ghost use Rattle.cjc_token_proof.specs.ByToken.Names.{HasLang, NamesAgree, NamesStand, SaysNames};
 ghost use Rattle.cjc_token_proof.specs.ByToken.Objects.{HasObjects, ObjectsAgree};
-ghost use Rattle.cjc_token_proof.specs.ByToken.Supers.{KindsAgree, SaysKinds};
+ghost use Rattle.cjc_token_proof.specs.ByToken.Supers.{KindsAgree, SaysKinds, SaysSteps};
 
 /// What instructions and reports ask of static fields is the same by name and in the static field image, whose
 /// cells are references and numbers behind them, each field's once: each letter reads and puts what the field
@@ -56,6 +56,12 @@ pub fn kinds_are_subtypes()
     ensures { (w : List WorldClass) (n : Naming) → SaysKinds w n → KindsAgree w n }
 {}
 
+/// The same of the classes of several packages and export files together, where each step upwards by name is one
+/// on the card, and each step there goes upwards by name.
+pub fn steps_are_subtypes()
+    ensures { (w : List WorldClass) (n : Naming) → SaysSteps w n → KindsAgree w n }
+{}
+
 /// Names of scripts, of exceptions and of reports stand for the same by the files and on the card, where the
 /// names of class infos and of export files are those of the package that is loaded alone: classes, imported
 /// classes that are no interfaces, subclasses of Throwable, the exceptions of the machine's own, and what a
@@ -63,4 +69,9 @@ pub fn kinds_are_subtypes()
 pub fn names_agree()
     ensures { (w : List WorldClass) (n : Naming) (part : Part) → SaysNames w n part → HasLang w → KindsAgree w n
         → NamesAgree w n }
+{}
+
+/// The same of the classes of several packages and export files together, where each name means its class.
+pub fn standing_names_agree()
+    ensures { (w : List WorldClass) (n : Naming) → NamesStand w n → HasLang w → KindsAgree w n → NamesAgree w n }
 {}

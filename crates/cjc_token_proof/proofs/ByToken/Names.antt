@@ -26,7 +26,8 @@ use Rattle.cjc_components.specs.LowerNarrow.Rows.Package.{name_there, plain_impo
 use Rattle.cjc_components.specs.LowerNarrow.Rows.Package
 use Rattle.cjc_ncode.specs.Lowering.Naming.{Naming}
 use Rattle.cjc_token_proof.specs.ByToken.Supers.{has_class, KindsAgree}
-use Rattle.cjc_token_proof.specs.ByToken.Names.{SaysNames, HasLang, NamesAgree}
+use Rattle.cjc_token_proof.specs.ByToken.Names.{SaysNames, HasLang, NamesAgree, NamesStand, StandsInside}
+use Rattle.cjc_token_proof.specs.ByToken.Names.{StandsOutside}
 use Rattle.cjc_token_proof.proofs.ByToken.Members.{bytes_tell}
 
 -- ---- infos
@@ -72,65 +73,42 @@ named_there (c ∷ classes) x k e = by (bytes_eq c.name x) refl (number_named cl
     by false is (Some j) e zero h rest = cc
     by false is (Some j) e (suc k) h rest = let same : j ≡ k = cc in rest k (e ∙ ap Some same)
 
-module _ (w : List Class) (n : Naming) (part : Part) (says : SaysNames w n part) where
-  -- the names of infos alone
-  own_alone : (x : List ℕ) → class_on_card n.loaded x
-      ≡ or_else (or_else (option_and_then (λ k. option_map (Own 0) (offset_of part k)) (number_named part.classes x))
-      None) (external_named n.loaded x)
-  own_alone x = ap (λ parts. or_else (own_from 0 parts x) (external_named n.loaded x)) says.alone
+-- ---- names that stand for their classes
 
+module _ (w : List Class) (n : Naming) (stand : NamesStand w n) where
   named_same : (x : List ℕ) → class_on_card n.loaded x ≡ option_as n.class (name_there w x)
-  named_same x = own_alone x ∙ by (class_named w x) refl
+  named_same x = by (class_named w x) refl
     where
-      by : (o : Option Class) → class_named w x ≡ o
-          → or_else (or_else (option_and_then (λ k. option_map (Own 0) (offset_of part k)) (number_named part.classes
-          x)) None) (external_named n.loaded x) ≡ option_as n.class (option_map (λ (c : Class). c.name)
-          (class_named w x))
-      by None e =
-          let no = says.none x e in
-          ap (λ o. or_else (or_else (option_and_then (λ k. option_map (Own 0) (offset_of part k)) o) None)
-          (external_named n.loaded x)) no.0
-          ∙ (no.1 ∙ sym (ap (λ o. option_as n.class (option_map (λ (c : Class). c.name) o)) e))
+      by : (o : Option Class) → class_named w x ≡ o → class_on_card n.loaded x ≡ option_as n.class (name_there w x)
+      by None e = (stand.none x e).0 ∙ sym (ap (λ o. option_as n.class (option_map (λ (c : Class). c.name) o)) e)
       by (Some c) e = kind c.is_imported refl
         where
           here : option_as n.class (option_map (λ (c : Class). c.name) (class_named w x)) ≡ Some (n.class x)
           here = ap (λ o. option_as n.class (option_map (λ (c : Class). c.name) o)) e
               ∙ ap (λ y. Some (n.class y)) (class_named-name w x c e)
 
-          kind : (b : Bool) → c.is_imported ≡ b
-              → or_else (or_else (option_and_then (λ k. option_map (Own 0) (offset_of part k))
-              (number_named part.classes x)) None) (external_named n.loaded x)
-              ≡ option_as n.class (option_map (λ (c : Class). c.name) (class_named w x))
-          kind false is =
-              let s = says.own x c e is in
-              ap (λ o. or_else (or_else (option_and_then (λ k. option_map (Own 0) (offset_of part k)) o) None)
-              (external_named n.loaded x)) s.numbered
-              ∙ (ap (λ o. or_else (or_else (option_map (Own 0) o) None) (external_named n.loaded x)) s.at
-              ∙ (ap Some (sym s.on_card) ∙ sym here))
-          kind true is =
-              let s = says.file x c e is in
-              ap (λ o. or_else (or_else (option_and_then (λ k. option_map (Own 0) (offset_of part k)) o) None)
-              (external_named n.loaded x)) s.has_no_info
-              ∙ (s.found ∙ (ap Some (sym s.on_card) ∙ sym here))
+          kind : (b : Bool) → c.is_imported ≡ b → class_on_card n.loaded x ≡ option_as n.class (name_there w x)
+          kind false is = (let s = stand.own x c e is in s.named) ∙ sym here
+          kind true is = (let s = stand.file x c e is in s.named) ∙ sym here
 
   imported_same : (x : List ℕ) → imported n.loaded x ≡ option_as n.class (plain_import w x)
   imported_same x = by (class_named w x) refl
     where
       by : (o : Option Class) → class_named w x ≡ o → imported n.loaded x ≡ option_as n.class (plain_import w x)
       by None e =
-          ap (option_and_then (imported_class_of n.loaded)) (says.none x e).1
+          ap (option_and_then (imported_class_of n.loaded)) (stand.none x e).1
           ∙ sym (ap (λ o. option_as n.class (if is_plain_import o then Some x else None)) e)
       by (Some c) e = kind c.is_imported refl
         where
           kind : (b : Bool) → c.is_imported ≡ b → imported n.loaded x ≡ option_as n.class (plain_import w x)
           kind false is =
-              let s = says.own x c e is in
+              let s = stand.own x c e is in
               ap (option_and_then (imported_class_of n.loaded)) s.in_no_file
               ∙ sym (ap (λ o. option_as n.class (if is_plain_import o then Some x else None)) e
               ∙ ap (λ b. option_as n.class (if b && not (flags.is_interface c.flags) then Some x else None)) is)
           kind true is =
-              let s = says.file x c e is in
-              ap (option_and_then (imported_class_of n.loaded)) s.found
+              let s = stand.file x c e is in
+              ap (option_and_then (imported_class_of n.loaded)) (s.found ∙ ap Some s.on_card)
               ∙ (ap (λ o. if is_interface_file o then None else Some (External s.tree s.token)) s.there
               ∙ (ap (λ b. if b then None else Some (External s.tree s.token)) s.flags
               ∙ (turn (flags.is_interface c.flags) (External s.tree s.token) (sym s.on_card)
@@ -149,8 +127,8 @@ module _ (w : List Class) (n : Naming) (part : Part) (says : SaysNames w n part)
       (codes "java/lang/Throwable")))) (imported_same x) ∙ by (is_plain_import (class_named w x)) refl
     where
       found : external_named n.loaded (codes "java/lang/Throwable") ≡ Some (n.class (codes "java/lang/Throwable"))
-      found = let j = lang.throwable in let s = says.file (codes "java/lang/Throwable") j.class j.there j.imported
-          in s.found ∙ ap Some (sym s.on_card)
+      found = let j = lang.throwable in let s = stand.file (codes "java/lang/Throwable") j.class j.there j.imported
+          in s.found
 
       has_top : has_class w (codes "java/lang/Throwable") ≡ true
       has_top = let j = lang.throwable in ap is_some j.there
@@ -183,10 +161,10 @@ module _ (w : List Class) (n : Naming) (part : Part) (says : SaysNames w n part)
       ≡ option_as n.class (name_there w (Package.fault_name f))
   fault_same lang f =
       let i = lang.faults f in
-      let s = says.file (fault_name f) i.class i.there i.imported in
-      s.found ∙ (ap Some (sym s.on_card) ∙ sym (ap (λ y. option_as n.class (name_there w y)) (same f)
+      let s = stand.file (fault_name f) i.class i.there i.imported in
+      s.found ∙ sym (ap (λ y. option_as n.class (name_there w y)) (same f)
       ∙ (ap (λ o. option_as n.class (option_map (λ (c : Class). c.name) o)) i.there
-      ∙ ap (λ y. Some (n.class y)) (class_named-name w (fault_name f) i.class i.there))))
+      ∙ ap (λ y. Some (n.class y)) (class_named-name w (fault_name f) i.class i.there)))
     where
       same : (f : Fault) → Package.fault_name f ≡ fault_name f
       same Arithmetic = refl
@@ -204,25 +182,74 @@ module _ (w : List Class) (n : Naming) (part : Part) (says : SaysNames w n part)
       by (Some c) e h = kind c.is_imported refl
         where
           kind : (b : Bool) → c.is_imported ≡ b → name_of n.loaded (n.class x) ≡ x
-          kind false is =
-              let s = says.own x c e is in
-              ap (name_of n.loaded) s.on_card
-              ∙ (ap (λ parts. unwrap_or (option_map (λ (c : ClassNames). c.name)
-              (option_and_then (λ (p : Part). option_and_then (slice_get p.classes) (number_of p s.offset))
-              (slice_get parts 0))) []) says.alone
-              ∙ (ap (λ o. unwrap_or (option_map (λ (c : ClassNames). c.name) (option_and_then (slice_get part.classes)
-              o)) []) (number_back 2 (infos part) s.number s.offset s.at)
-              ∙ ap (λ o. unwrap_or o []) (named_there part.classes x s.number s.numbered)))
-          kind true is =
-              let s = says.file x c e is in
-              ap (name_of n.loaded) s.on_card ∙ (ap (λ o. unwrap_or (option_map (λ (c : ExportClass). c.name) o) [])
-              s.there ∙ s.name)
+          kind false is = let s = stand.own x c e is in s.name
+          kind true is = let s = stand.file x c e is in s.name
 
-  pub names_agree : HasLang w → KindsAgree w n → NamesAgree w n
-  names_agree lang kinds = record {
+  pub standing_names_agree : HasLang w → KindsAgree w n → NamesAgree w n
+  standing_names_agree lang kinds = record {
     class_named = named_same;
     imported = imported_same;
     throwable = throwable_same lang kinds;
     fault = fault_same lang;
     name = name_same;
   }
+
+-- ---- of one package
+
+module _ (w : List Class) (n : Naming) (part : Part) (says : SaysNames w n part) where
+  -- the names of infos alone
+  own_alone : (x : List ℕ) → class_on_card n.loaded x
+      ≡ or_else (or_else (option_and_then (λ k. option_map (Own 0) (offset_of part k)) (number_named part.classes x))
+      None) (external_named n.loaded x)
+  own_alone x = ap (λ parts. or_else (own_from 0 parts x) (external_named n.loaded x)) says.alone
+
+  inside : (x : List ℕ) (c : Class) → class_named w x ≡ Some c → c.is_imported ≡ false → StandsInside n x
+  inside x c e is =
+      let s = says.own x c e is in
+      record {
+        named = own_alone x ∙ ap (λ o. or_else (or_else (option_and_then (λ k. option_map (Own 0) (offset_of part k))
+            o) None) (external_named n.loaded x)) s.numbered
+            ∙ ap (λ o. or_else (or_else (option_map (Own 0) o) None) (external_named n.loaded x)) s.at
+            ∙ ap Some (sym s.on_card);
+        in_no_file = s.in_no_file;
+        name = ap (name_of n.loaded) s.on_card
+            ∙ ap (λ parts. unwrap_or (option_map (λ (c : ClassNames). c.name)
+            (option_and_then (λ (p : Part). option_and_then (slice_get p.classes) (number_of p s.offset))
+            (slice_get parts 0))) []) says.alone
+            ∙ ap (λ o. unwrap_or (option_map (λ (c : ClassNames). c.name) (option_and_then (slice_get part.classes)
+            o)) []) (number_back 2 (infos part) s.number s.offset s.at)
+            ∙ ap (λ o. unwrap_or o []) (named_there part.classes x s.number s.numbered);
+      }
+
+  outside : (x : List ℕ) (c : Class) → class_named w x ≡ Some c → c.is_imported ≡ true → StandsOutside n x c
+  outside x c e is =
+      let s = says.file x c e is in
+      record {
+        named = own_alone x ∙ ap (λ o. or_else (or_else (option_and_then (λ k. option_map (Own 0) (offset_of part k))
+            o) None) (external_named n.loaded x)) s.has_no_info
+            ∙ s.found ∙ ap Some (sym s.on_card);
+        found = s.found ∙ ap Some (sym s.on_card);
+        name = ap (name_of n.loaded) s.on_card ∙ ap (λ o. unwrap_or (option_map (λ (c : ExportClass). c.name) o) [])
+            s.there ∙ s.name;
+        tree = s.tree;
+        token = s.token;
+        entry = s.entry;
+        on_card = s.on_card;
+        there = s.there;
+        flags = s.flags;
+      }
+
+  names_stand : NamesStand w n
+  names_stand = record {
+    own = inside;
+    file = outside;
+    none = λ x e. (let no = says.none x e in (
+      own_alone x
+          ∙ ap (λ o. or_else (or_else (option_and_then (λ k. option_map (Own 0) (offset_of part k)) o) None)
+          (external_named n.loaded x)) no.0 ∙ no.1,
+      no.1,
+    ));
+  }
+
+  pub names_agree : HasLang w → KindsAgree w n → NamesAgree w n
+  names_agree = standing_names_agree w n names_stand

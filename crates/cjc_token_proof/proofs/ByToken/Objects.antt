@@ -58,6 +58,20 @@ module _ (n : Naming) (may : MemberId → Bool) where
   further later lt Objects.no_class = Objects.no_class
   further later lt Objects.imported = Objects.imported
   further later lt (Objects.own less) = Objects.own (omega arith)
+  further later lt (Objects.earlier less) = Objects.earlier less
+
+  -- what stands before a class of a package before stands before each class of the package
+  over : {lower before part : ℕ} {c : Option Class} (offset : ℕ) → lower < part → StandsBefore lower before c
+      → StandsBefore part offset c
+  over offset lt Objects.no_class = Objects.no_class
+  over offset lt Objects.imported = Objects.imported
+  over offset lt (Objects.own less) = Objects.earlier lt
+  over offset lt (Objects.earlier less) = Objects.earlier (omega arith)
+
+  parts_differ : (lower part before offset : ℕ) → lower < part
+      → same_class (Own lower before) (Own part offset) ≡ false
+  parts_differ lower part before offset lt =
+      let e : (lower == part) ≡ false = grind (arith, nat_tests) in ap (λ t. t && (before == offset)) e
 
   differs : (part before offset : ℕ) → before < offset → same_class (Own part before) (Own part offset) ≡ false
   differs part before offset lt =
@@ -96,6 +110,17 @@ module _ (n : Naming) (may : MemberId → Bool) where
         class = Own part offset;
         token = token;
       }) (differs part here offset less))
+  before_none (Objects.declares {part = lower} {offset = here} {entry = entry} info names has first more) (suc d) le
+      part offset token (Objects.earlier less) =
+      ap (λ s. slot_of same_field s (record { class = Own part offset; token = token })) (own_behind d lower here
+      entry info)
+      ∙ (past_front (at d (superclass n.loaded lower here)) (slots_from (Own lower here) entry 0
+      entry.declared_instance_size) (record { class = Own part offset; token = token })
+      (before_none more d (omega arith) part offset token (over offset less first))
+      ∙ of_other_class (Own lower here) entry 0 entry.declared_instance_size (record {
+        class = Own part offset;
+        token = token;
+      }) (parts_differ lower part here offset less))
 
   all_once : {h : ℕ} {c : Option Class} {fields : List MemberId} → Declares n may h c fields → (d : ℕ) → h ≤ d
       → Once (at d c)

@@ -20,7 +20,7 @@ use Rattle.cjc_world.proofs.Subtypes.{reaches}
 use Rattle.cjc_ncode.specs.Lowering.Naming.{Naming, IsClass}
 use Rattle.cjc_token_proof.specs.ByToken.Above.{IsAtOrAbove, itself, upwards}
 use Rattle.cjc_token_proof.specs.ByToken.Supers.{has_class, IsToldOf, listed_there, above_each, SaysSupers, of_package}
-use Rattle.cjc_token_proof.specs.ByToken.Supers.{of_file, SaysKinds, KindsAgree}
+use Rattle.cjc_token_proof.specs.ByToken.Supers.{of_file, SaysKinds, SaysSteps, IsAboveByName, KindsAgree}
 use Rattle.cjc_token_proof.proofs.ByToken.Members.{bytes_tell}
 use Rattle.cjc_card_semantics.proofs.MachineLaws.Upwards.{head_in, later_in, first_or_later, front_in, behind_in}
 use Rattle.cjc_card_semantics.proofs.MachineLaws.Upwards.{either_in}
@@ -103,87 +103,113 @@ nothing_more : (b : CardClass) (cs : List CardClass) → is_in b (cs ++ []) ≡ 
 nothing_more b [] = refl
 nothing_more b (c ∷ cs) = ap (λ t. same_class b c || t) (nothing_more b cs)
 
+-- of a class of a package, by what its class_refs mean, and of one of an export file
+module _ (w : List Class) (n : Naming) (top : object_class n.loaded ≡ Some (n.class object)) where
+  module _ (x : List ℕ) (offset : ℕ) (info : Info) (listed : List (List ℕ)) (at : n.class x ≡ Own n.part offset)
+      (there : info_of n.loaded n.part offset ≡ Some info) (refs : info_supers info ≡ map n.class_ref listed)
+      (mean : (y : List ℕ) → Lists y listed → IsClass n y) where
+    package_supers : supers n.loaded (n.class x) ≡ map n.class listed ++ object_above n.loaded (Some info)
+    package_supers =
+        ap (supers n.loaded) at
+        ∙ (ap (λ o. some_of (map (class_of n.loaded n.part) (all_supers o)) ++ object_above n.loaded o) there
+        ∙ (ap (λ rs. some_of (map (class_of n.loaded n.part) rs) ++ object_above n.loaded (Some info)) refs
+        ∙ ap (λ cs. cs ++ object_above n.loaded (Some info)) (all_refs n listed mean)))
+
+    pub up_in_package : (y : List ℕ) → IsToldOf n info listed y
+        → is_in (n.class y) (supers n.loaded (n.class x)) ≡ true
+    up_in_package y told = ap (is_in (n.class y)) package_supers ∙ by y told
+      where
+        by : (y : List ℕ) → IsToldOf n info listed y → is_in (n.class y) (map n.class listed
+            ++ object_above n.loaded (Some info)) ≡ true
+        by y (listed_there j) = front_in (n.class y) (map n.class listed) (object_above n.loaded (Some info))
+            (named_in n y listed j)
+        by _ (above_each e) = behind_in (n.class object) (map n.class listed) (object_above n.loaded (Some info))
+            (ap (is_in (n.class object)) (e ∙ ap option_to_list top) ∙ head_in (n.class object) [])
+
+    pub down_in_package : (b : CardClass) → ((y : List ℕ) → IsToldOf n info listed y → (has_class w y ≡ true)
+        × Above w x y) → is_in b (supers n.loaded (n.class x)) ≡ true → IsAboveByName w n x b
+    down_in_package b all e =
+        ⊎_elim
+        (λ h. let r = from_named n b listed h in let a = all r.0 (listed_there r.1) in record {
+          name = r.0;
+          there = a.0;
+          is = r.2;
+          above = a.1;
+        })
+        (λ h. by_object info all h)
+        (either_in b (map n.class listed) (object_above n.loaded (Some info)) (sym (ap (is_in b) package_supers) ∙ e))
+      where
+        found : (info : Info) → ((y : List ℕ) → IsToldOf n info listed y → (has_class w y ≡ true) × Above w x y)
+            → object_above n.loaded (Some info) ≡ option_to_list (object_class n.loaded)
+            → is_in b (option_to_list (object_class n.loaded)) ≡ true → IsAboveByName w n x b
+        found info all same h =
+            let a = all object (above_each same) in
+            let g : is_in b (n.class object ∷ []) ≡ true = sym (ap (λ o. is_in b (option_to_list o)) top) ∙ h in
+            ⊎_elim (λ is. record { name = object; there = a.0; is = sym is; above = a.1 }) (λ no. cc)
+            (first_or_later b (n.class object) [] g)
+
+        by_object : (info : Info) → ((y : List ℕ) → IsToldOf n info listed y → (has_class w y ≡ true) × Above w x y)
+            → is_in b (object_above n.loaded (Some info)) ≡ true → IsAboveByName w n x b
+        by_object (card.IsInterface i) all h = found (card.IsInterface i) all refl h
+        by_object (card.IsClass i) all h = cc
+
+  module _ (x : List ℕ) (c : Class) (tree token : ℕ) (e : ExportClass) (at : n.class x ≡ External tree token)
+      (there : external n.loaded tree token ≡ Some e) (supers_same : e.supers ≡ c.supers)
+      (interfaces_same : e.interfaces ≡ c.interfaces)
+      (named : (y : List ℕ) → Lists y (c.supers ++ c.interfaces) → external_named n.loaded y ≡ (if has_class w y
+      then Some (n.class y) else None)) where
+    file_supers : (b : CardClass) → is_in b (supers n.loaded (n.class x))
+        ≡ is_in b (some_of (map (external_named n.loaded) (c.supers ++ c.interfaces)))
+    file_supers b =
+        ap (λ d. is_in b (supers n.loaded d)) at
+        ∙ (ap (λ o. is_in b (flat_map (λ (d : ExportClass). some_of (map (external_named n.loaded) (d.supers
+        ++ d.interfaces))) (option_to_list o))) there
+        ∙ (nothing_more b (some_of (map (external_named n.loaded) (e.supers ++ e.interfaces)))
+        ∙ (ap (λ ys. is_in b (some_of (map (external_named n.loaded) (ys ++ e.interfaces)))) supers_same
+        ∙ ap (λ ys. is_in b (some_of (map (external_named n.loaded) (c.supers ++ ys)))) interfaces_same)))
+
+    pub up_in_file : (y : List ℕ) → Lists y (c.supers ++ c.interfaces) → has_class w y ≡ true
+        → is_in (n.class y) (supers n.loaded (n.class x)) ≡ true
+    up_in_file y i is = file_supers (n.class y) ∙ all_files n w (c.supers ++ c.interfaces) named y i is
+
+    pub down_in_file : (b : CardClass) → class_named w x ≡ Some c → is_in b (supers n.loaded (n.class x)) ≡ true
+        → IsAboveByName w n x b
+    down_in_file b known h =
+        let r = from_files n w b (c.supers ++ c.interfaces) named (sym (file_supers b) ∙ h) in
+        record { name = r.name; there = r.there; is = r.is; above = directly c known r.among }
+
 module _ (w : List Class) (n : Naming) (says : SaysKinds w n) where
-  -- a class that stands above another by name
-  pub record FromAbove (x : List ℕ) (b : CardClass) : Type 0 where
-    pub name : List ℕ
-    pub there : has_class w name ≡ true
-    pub is : n.class name ≡ b
-    pub above : Above w x name
-
-  package_supers : (offset : ℕ) (info : Info) (listed : List (List ℕ)) → info_of n.loaded n.part offset ≡ Some info
-      → info_supers info ≡ map n.class_ref listed → ((y : List ℕ) → Lists y listed → has_class w y ≡ true)
-      → supers n.loaded (Own n.part offset) ≡ map n.class listed ++ object_above n.loaded (Some info)
-  package_supers offset info listed there refs has =
-      ap (λ o. some_of (map (class_of n.loaded n.part) (all_supers o)) ++ object_above n.loaded o) there
-      ∙ (ap (λ rs. some_of (map (class_of n.loaded n.part) rs) ++ object_above n.loaded (Some info)) refs
-      ∙ ap (λ cs. cs ++ object_above n.loaded (Some info)) (all_refs n listed (λ y i. says.class_ref y (has y i))))
-
-  file_supers : (tree token : ℕ) (e : ExportClass) (c : Class) (b : CardClass) → external n.loaded tree token ≡ Some e
-      → e.supers ≡ c.supers → e.interfaces ≡ c.interfaces → is_in b (supers n.loaded (External tree token))
-      ≡ is_in b (some_of (map (external_named n.loaded) (c.supers ++ c.interfaces)))
-  file_supers tree token e c b there supers_same interfaces_same =
-      ap (λ o. is_in b (flat_map (λ (d : ExportClass). some_of (map (external_named n.loaded) (d.supers
-      ++ d.interfaces))) (option_to_list o))) there
-      ∙ (nothing_more b (some_of (map (external_named n.loaded) (e.supers ++ e.interfaces)))
-      ∙ (ap (λ ys. is_in b (some_of (map (external_named n.loaded) (ys ++ e.interfaces)))) supers_same
-      ∙ ap (λ ys. is_in b (some_of (map (external_named n.loaded) (c.supers ++ ys)))) interfaces_same))
-
   -- what a class lists stands above it on the card
   supers_in : (x : List ℕ) (c : Class) (y : List ℕ) → SaysSupers w n x c → Lists y (c.supers ++ c.interfaces)
       → has_class w y ≡ true → is_in (n.class y) (supers n.loaded (n.class x)) ≡ true
   supers_in x c y (of_package offset info listed at there refs all each) i is =
-      ap (λ d. is_in (n.class y) (supers n.loaded d)) at
-      ∙ (ap (is_in (n.class y)) (package_supers offset info listed there refs (λ z j. (all z (listed_there j)).0))
-      ∙ by y (each y i is))
-    where
-      by : (y : List ℕ) → IsToldOf n info listed y → is_in (n.class y) (map n.class listed
-          ++ object_above n.loaded (Some info)) ≡ true
-      by y (listed_there j) = front_in (n.class y) (map n.class listed) (object_above n.loaded (Some info))
-          (named_in n y listed j)
-      by _ (above_each e) = behind_in (n.class object) (map n.class listed) (object_above n.loaded (Some info))
-          (ap (is_in (n.class object)) (e ∙ ap option_to_list says.object_class) ∙ head_in (n.class object) [])
+      up_in_package w n says.object_class x offset info listed at there refs
+      (λ z j. says.class_ref z (all z (listed_there j)).0) y (each y i is)
   supers_in x c y (of_file tree token e at there s f named) i is =
-      ap (λ d. is_in (n.class y) (supers n.loaded d)) at ∙ (file_supers tree token e c (n.class y) there s f
-      ∙ all_files n w (c.supers ++ c.interfaces) named y i is)
+      up_in_file w n says.object_class x c tree token e at there s f named y i is
 
   -- what stands directly above a class on the card stands above it by name
   pub supers_from : (x : List ℕ) (c : Class) (b : CardClass) → class_named w x ≡ Some c → SaysSupers w n x c
-      → is_in b (supers n.loaded (n.class x)) ≡ true → FromAbove x b
-  supers_from x c b known (of_package offset info listed at there refs all each) e =
-      let e' = sym (ap (λ d. is_in b (supers n.loaded d)) at
-      ∙ ap (is_in b) (package_supers offset info listed there refs (λ z j. (all z (listed_there j)).0))) ∙ e in
-      ⊎_elim
-      (λ h. let r = from_named n b listed h in let a = all r.0 (listed_there r.1) in record {
-        name = r.0;
-        there = a.0;
-        is = r.2;
-        above = a.1;
-      })
-      (λ h. by_object info all h)
-      (either_in b (map n.class listed) (object_above n.loaded (Some info)) e')
-    where
-      found : (info : Info) → ((y : List ℕ) → IsToldOf n info listed y → (has_class w y ≡ true) × Above w x y)
-          → object_above n.loaded (Some info) ≡ option_to_list (object_class n.loaded)
-          → is_in b (option_to_list (object_class n.loaded)) ≡ true → FromAbove x b
-      found info all same h =
-          let a = all object (above_each same) in
-          let g : is_in b (n.class object ∷ []) ≡ true = sym (ap (λ o. is_in b (option_to_list o)) says.object_class)
-          ∙ h in
-          ⊎_elim (λ is. record { name = object; there = a.0; is = sym is; above = a.1 }) (λ no. cc)
-          (first_or_later b (n.class object) [] g)
-
-      by_object : (info : Info) → ((y : List ℕ) → IsToldOf n info listed y → (has_class w y ≡ true) × Above w x y)
-          → is_in b (object_above n.loaded (Some info)) ≡ true → FromAbove x b
-      by_object (card.IsInterface i) all h = found (card.IsInterface i) all refl h
-      by_object (card.IsClass i) all h = cc
+      → is_in b (supers n.loaded (n.class x)) ≡ true → IsAboveByName w n x b
+  supers_from x c b known (of_package offset info listed at there refs all each) h =
+      down_in_package w n says.object_class x offset info listed at there refs
+      (λ z j. says.class_ref z (all z (listed_there j)).0) b all h
   supers_from x c b known (of_file tree token e at there s f named) h =
-      let r = from_files n w b (c.supers ++ c.interfaces) named (sym (ap (λ d. is_in b (supers n.loaded d)) at
-      ∙ file_supers tree token e c b there s f) ∙ h) in
-      record { name = r.name; there = r.there; is = r.is; above = directly c known r.among }
+      down_in_file w n says.object_class x c tree token e at there s f named b known h
 
-  -- ---- all steps
+  says_steps : SaysSteps w n
+  says_steps = record {
+    object_there = says.object_there;
+    object_class = says.object_class;
+    once = says.once;
+    no_array = says.no_array;
+    up = λ x y c e i is. supers_in x c y (says.supers x c e) i is;
+    down = λ x c b e h. supers_from x c b e (says.supers x c e) h;
+  }
 
+-- ---- all steps
+
+module _ (w : List Class) (n : Naming) (says : SaysSteps w n) where
   found_class : (x : List ℕ) → has_class w x ≡ true → (c : Class) × (class_named w x ≡ Some c)
   found_class x e = by (class_named w x) refl e
     where
@@ -196,9 +222,8 @@ module _ (w : List Class) (n : Naming) (says : SaysKinds w n) where
   first_class x y (onwards c e i more) = ap is_some e
 
   to_card : (x y : List ℕ) → Above w x y → has_class w y ≡ true → IsAtOrAbove n.loaded (n.class x) (n.class y)
-  to_card x y (directly c e i) is = upwards (supers_in x c y (says.supers x c e) i is) itself
-  to_card x y (onwards {y = z} c e i more) is = upwards (supers_in x c z (says.supers x c e) i (first_class z y more))
-      (to_card z y more is)
+  to_card x y (directly c e i) is = upwards (says.up x y c e i is) itself
+  to_card x y (onwards {y = z} c e i more) is = upwards (says.up x z c e i (first_class z y more)) (to_card z y more is)
 
   trans : (x y z : List ℕ) → Above w x y → Above w y z → Above w x z
   trans x y z (directly c e i) far = onwards c e i far
@@ -209,8 +234,7 @@ module _ (w : List Class) (n : Naming) (says : SaysKinds w n) where
   from_card a _ x y itself at to is there = inl (says.once x y is there (sym at ∙ to))
   from_card a d x y (upwards {b = b} direct more) at to is there =
       let c = found_class x is in
-      let r = supers_from x c.0 b c.1 (says.supers x c.0 c.1) (ap (λ e. is_in b (supers n.loaded e)) (sym at) ∙ direct)
-      in
+      let r = says.down x c.0 b c.1 (ap (λ e. is_in b (supers n.loaded e)) (sym at) ∙ direct) in
       ⊎_elim (λ same. inr (subst (Above w x) same r.above)) (λ far. inr (trans x r.name y r.above far))
       (from_card b d r.name y more (sym r.is) to r.there there)
 
@@ -349,18 +373,21 @@ module _ (w : List Class) (n : Naming) (says : SaysKinds w n) where
   numbers_are_arrays Shorts = refl
   numbers_are_arrays Ints = refl
 
-  pub kinds_agree : KindsAgree w n
-  kinds_agree (OfClass c) (OfClass d) is there = kind_same c d is there
+  pub steps_agree : KindsAgree w n
+  steps_agree (OfClass c) (OfClass d) is there = kind_same c d is there
       ∙ sym (class_of_class c d (says.no_array c is) (says.no_array d there))
-  kinds_agree (OfClass c) (OfNumbers b) is there = sym (class_of_array c (shape_name (OfNumbers b)) (says.no_array c is)
+  steps_agree (OfClass c) (OfNumbers b) is there = sym (class_of_array c (shape_name (OfNumbers b)) (says.no_array c is)
       (numbers_are_arrays b))
-  kinds_agree (OfClass c) (OfReferences d) is there =
+  steps_agree (OfClass c) (OfReferences d) is there =
       sym (class_of_array c (shape_name (OfReferences d)) (says.no_array c is) refl)
-  kinds_agree (OfNumbers a) (OfNumbers b) is there = numbers_same a b
-  kinds_agree (OfNumbers a) (OfClass d) is there = object_same d there
+  steps_agree (OfNumbers a) (OfNumbers b) is there = numbers_same a b
+  steps_agree (OfNumbers a) (OfClass d) is there = object_same d there
       ∙ sym (array_of_class (shape_name (OfNumbers a)) d (numbers_are_arrays a) (says.no_array d there))
-  kinds_agree (OfNumbers a) (OfReferences d) is there = sym (numbers_are_none a d)
-  kinds_agree (OfReferences c) (OfReferences d) is there = kind_same c d is there ∙ sym (references_same c d)
-  kinds_agree (OfReferences c) (OfClass d) is there = object_same d there
+  steps_agree (OfNumbers a) (OfReferences d) is there = sym (numbers_are_none a d)
+  steps_agree (OfReferences c) (OfReferences d) is there = kind_same c d is there ∙ sym (references_same c d)
+  steps_agree (OfReferences c) (OfClass d) is there = object_same d there
       ∙ sym (array_of_class (shape_name (OfReferences c)) d refl (says.no_array d there))
-  kinds_agree (OfReferences c) (OfNumbers b) is there = sym (none_are_numbers c b)
+  steps_agree (OfReferences c) (OfNumbers b) is there = sym (none_are_numbers c b)
+
+pub kinds_agree : (w : List Class) (n : Naming) → SaysKinds w n → KindsAgree w n
+kinds_agree w n says = steps_agree w n (says_steps w n says)

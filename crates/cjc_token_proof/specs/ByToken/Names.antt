@@ -44,6 +44,31 @@ pub record SaysNames (w : List Class) (n : Naming) (part : Part) : Type 0 where
   pub none : (x : List ℕ) → class_named w x ≡ None → (number_named part.classes x ≡ None)
       × (external_named n.loaded x ≡ None)
 
+-- A name of a class of one of several packages is that class on the card, and no export file has it.
+pub record StandsInside (n : Naming) (x : List ℕ) : Type 0 where
+  pub named : class_on_card n.loaded x ≡ Some (n.class x)
+  pub in_no_file : external_named n.loaded x ≡ None
+  pub name : name_of n.loaded (n.class x) ≡ x
+
+-- A name of a class of an export file is that class, with its flags.
+pub record StandsOutside (n : Naming) (x : List ℕ) (c : Class) : Type 0 where
+  pub named : class_on_card n.loaded x ≡ Some (n.class x)
+  pub found : external_named n.loaded x ≡ Some (n.class x)
+  pub name : name_of n.loaded (n.class x) ≡ x
+  pub tree : ℕ
+  pub token : ℕ
+  pub entry : ExportClass
+  pub on_card : n.class x ≡ External tree token
+  pub there : external n.loaded tree token ≡ Some entry
+  pub flags : is_interface entry.flags ≡ is_interface c.flags
+
+-- Each name means its class on the card, among several packages and export files, and no other name is there.
+pub record NamesStand (w : List Class) (n : Naming) : Type 0 where
+  pub own : (x : List ℕ) (c : Class) → class_named w x ≡ Some c → c.is_imported ≡ false → StandsInside n x
+  pub file : (x : List ℕ) (c : Class) → class_named w x ≡ Some c → c.is_imported ≡ true → StandsOutside n x c
+  pub none : (x : List ℕ) → class_named w x ≡ None → (class_on_card n.loaded x ≡ None)
+      × (external_named n.loaded x ≡ None)
+
 -- some export file has the class
 pub record IsImport (w : List Class) (x : List ℕ) : Type 0 where
   pub class : Class

@@ -25,11 +25,12 @@ is_reference other = false
 
 -- ---- what class infos say of fields
 
--- the class stands before this offset of the package, or is none of the group
+-- the class stands before this offset of the package, or in a package before, or is none of the group
 pub data StandsBefore (part offset : ℕ) : Option Class → Type 0 where
   no_class : StandsBefore part offset None
   imported : {tree token : ℕ} → StandsBefore part offset (Some (External tree token))
   own : {before : ℕ} → before < offset → StandsBefore part offset (Some (Own part before))
+  earlier : {lower before : ℕ} → lower < part → StandsBefore part offset (Some (Own lower before))
 
 -- an instance field by its token
 abbrev pub field_name : Naming → MemberId → FieldName

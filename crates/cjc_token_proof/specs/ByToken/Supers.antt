@@ -4,8 +4,9 @@ use Rattle.std.specs.Prelude.{if◌then◌else◌}
 use Rattle.cjc_world.specs.ExportFile.declared.tree.ExportClass.{ExportClass}
 use Rattle.cjc_script.specs.Sorts.{Shape, OfClass, OfNumbers, OfReferences, shape_name}
 use Rattle.cjc_card_semantics.specs.Bytecode.Renaming.{shape_as}
-use Rattle.cjc_card_semantics.specs.Machine.Classes.{Own, External, Info, is_of, info_of, info_supers, external}
-use Rattle.cjc_card_semantics.specs.Machine.Classes.{external_named, object_class, object_above}
+use Rattle.cjc_card_semantics.specs.Machine.Classes.{Own, External, Info, is_in, is_of, info_of, info_supers, external}
+use Rattle.cjc_card_semantics.specs.Machine.Classes.{external_named, object_class, object_above, supers}
+use Rattle.cjc_card_semantics.specs.Machine.Classes as card
 use Rattle.cjc_world.specs.Classes.{Class, class_named}
 use Rattle.cjc_world.specs.Supertypes.{Lists, Above}
 use Rattle.cjc_world.specs.Lookup.{object}
@@ -51,6 +52,25 @@ pub record SaysKinds (w : List Class) (n : Naming) : Type 0 where
   pub once : (x y : List ℕ) → has_class w x ≡ true → has_class w y ≡ true → n.class x ≡ n.class y → x ≡ y
   pub no_array : (x : List ℕ) → has_class w x ≡ true → starts 91 x ≡ false
   pub supers : (x : List ℕ) (c : Class) → class_named w x ≡ Some c → SaysSupers w n x c
+
+-- A class that some file has, which is this one on the card, and which stands above another by name.
+pub record IsAboveByName (w : List Class) (n : Naming) (x : List ℕ) (b : card.Class) : Type 0 where
+  pub name : List ℕ
+  pub there : has_class w name ≡ true
+  pub is : n.class name ≡ b
+  pub above : Above w x name
+
+-- What a class lists stands directly above it on the card, and what stands directly above it there stands above it by
+-- name, wherever the class is: in one of several packages, or in an export file; and two names are never one class.
+pub record SaysSteps (w : List Class) (n : Naming) : Type 0 where
+  pub object_there : has_class w object ≡ true
+  pub object_class : object_class n.loaded ≡ Some (n.class object)
+  pub once : (x y : List ℕ) → has_class w x ≡ true → has_class w y ≡ true → n.class x ≡ n.class y → x ≡ y
+  pub no_array : (x : List ℕ) → has_class w x ≡ true → starts 91 x ≡ false
+  pub up : (x y : List ℕ) (c : Class) → class_named w x ≡ Some c → Lists y (c.supers ++ c.interfaces)
+      → has_class w y ≡ true → is_in (n.class y) (supers n.loaded (n.class x)) ≡ true
+  pub down : (x : List ℕ) (c : Class) (b : card.Class) → class_named w x ≡ Some c
+      → is_in b (supers n.loaded (n.class x)) ≡ true → IsAboveByName w n x b
 
 -- A type is of another by token where it is a subtype by name.
 abbrev pub KindsAgree : List Class → Naming → Type 0
