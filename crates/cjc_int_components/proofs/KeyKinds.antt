@@ -1,37 +1,20 @@
 -- What is named in int mode is of the kind that its opcode uses.
-use Rattle.std.proofs.Common.{◌≡◌, ℕ, sym, ap, subst, ◌∙◌, Bool, true, List, [], ◌∷◌, ◌++◌, append-nil}
-use Rattle.std.specs.Prelude.{flat_map, slice_get}
+use Rattle.std.proofs.Common.{◌≡◌, ℕ, sym, ap, subst, ◌∙◌, Bool, true, List, [], ◌∷◌}
+use Rattle.std.specs.Prelude.{slice_get}
 use Rattle.cjc_int_narrow.specs.Bytes.declared.fault.MemberId.{MemberId}
 use Rattle.cjc_int_narrow.specs.Script.Sorts.{Sort, field_sort}
 use Rattle.cjc_int_narrow.specs.World.Files.{Files}
-use Rattle.cjc_int_narrow.specs.Bytecode.declared.insn.JInsn.{JInsn}
 use Rattle.cjc_int_narrow.specs.Bytecode.declared.insn.JOp.{JOp}
-use Rattle.cjc_ncode.specs.Written.{Resolution, static_access, written, written_for}
+use Rattle.cjc_ncode.specs.Written.{static_access}
 use Rattle.cjc_ncode.specs.declared.narrow.NInsn.{NInsn}
 use Rattle.cjc_ncode.specs.declared.narrow.NInsn.TheVariants as insns
-use Rattle.cjc_ncode.specs.declared.narrow.PairRole.{PairRole}
-use Rattle.cjc_ncode.specs.declared.narrow.PairRole.TheVariants.{Alone}
 use Rattle.cjc_ncode.specs.declared.narrow.PoolKey.TheVariants as keys
-use Rattle.cjc_int_narrow.proofs.NarrowRoles.{written_as_same}
 use Rattle.cjc_int_narrow.specs.LowerNarrow.Rows.Resolved.{resolution}
 use Rattle.cjc_check_proof.proofs.PromisesLaws.KeyKinds.{code_has_kinds, static_suits, suits}
 use Rattle.cjc_check_proof.specs.Code.Kinds.{HasKind}
 use Rattle.cjc_int_narrow.specs.LowerIntProof.Operands.{names_nothing}
-use Rattle.cjc_int_components.specs.Names.{NamesAs, nothing, outside, static_field}
-
--- no instruction opens or closes a pair
-abbrev pub alone : ℕ → PairRole
-alone offset = Alone
-
--- an instruction by itself
-abbrev pub lone : JOp → JInsn
-lone op = record { at = 0; op = op }
-
--- what is written for one by itself
-pub lone_written : (r : Resolution) (place : ℕ → ℕ) (op : JOp)
-    → flat_map (written_for (record r { role = alone }) place) (lone op ∷ []) ≡ written r place op
-lone_written r place op = append-nil (written_for (record r { role = alone }) place (lone op))
-    ∙ written_as_same r alone Alone place op
+use Rattle.cjc_int_selection.specs.Names.{NamesAs, nothing, outside, static_field}
+use Rattle.cjc_int_selection.proofs.Lone.{alone, lone, lone_written}
 
 -- an instruction that names nothing
 pub plain_kind : (i : NInsn) → names_nothing i ≡ true → HasKind i

@@ -1,15 +1,9 @@
-pub mod Naming
 pub mod KeyKinds
-pub mod Numbers
-pub mod Said
 pub mod Ending
 pub mod Layouts
 pub mod Made
 pub mod ByTables
 pub mod ByModes
-pub mod Selectable
-pub mod Operands
-pub mod Constants
 pub mod Room
 pub mod Words
 pub mod Operations

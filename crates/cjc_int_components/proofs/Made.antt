@@ -1,5 +1,5 @@
 -- Methods that come to their code by their modes keep all that consistent code asks.
-use Rattle.std.proofs.Common.{◌≡◌, ◌<◌, ℕ, zero, suc, refl, sym, ap, subst, ◌∙◌, List, [], ◌∷◌, length}
+use Rattle.std.proofs.Common.{◌≡◌, ℕ, zero, suc, refl, sym, ap, subst, ◌∙◌, List, [], ◌∷◌, length}
 use Rattle.std.specs.Prelude.{Option, Some, slice_get}
 use Rattle.cjc_int_narrow.specs.Bytes.declared.fault.MemberId.{MemberId}
 use Rattle.cjc_int_narrow.specs.ClassFile.Code.{CodeTree}
@@ -28,10 +28,10 @@ use Rattle.cjc_check_proof.proofs.PromisesLaws.Made as Outside
 use Rattle.cjc_int_narrow.specs.LowerIntMode.Written.{int_frame, places_from, reached_from, written_in_int_mode}
 use Rattle.cjc_int_narrow.proofs.Stands.{int_code_whole}
 use Rattle.cjc_int_components.specs.Made.{AllAreMadeByMode, IsMadeByMode, in_int_mode, in_short_mode}
-use Rattle.cjc_int_components.specs.Names.{NamesAsOneOf, as_one, no_name}
+use Rattle.cjc_int_selection.specs.Names.{NamesAsOneOf, as_one, no_name}
 use Rattle.cjc_int_components.proofs.Ending.{int_code_ends}
 use Rattle.cjc_int_components.proofs.KeyKinds.{named_kind, plain_kind}
-use Rattle.cjc_int_components.proofs.Naming.{all_named}
+use Rattle.cjc_int_selection.proofs.Naming.{all_named}
 
 -- ---- the code of a method in int mode
 

@@ -1,12 +1,10 @@
 -- The code of a package by modes names what its class files name.
 use Rattle.std.proofs.Common.{◌≡◌, ℕ, zero, suc, ◌+◌, refl, sym, ap, ◌∙◌, Bool, true, false, List, [], ◌∷◌}
-use Rattle.std.specs.Prelude.{Option, Some, None, slice_get, ℤ}
+use Rattle.std.specs.Prelude.{Option, Some, None, slice_get}
 use Rattle.cjc_int_narrow.specs.Bytes.declared.fault.MemberId.{MemberId}
 use Rattle.cjc_int_narrow.specs.Bytecode.declared.insn.JInsn.{JInsn}
-use Rattle.cjc_int_narrow.specs.Bytecode.declared.insn.JOp.{JOp}
 use Rattle.cjc_int_narrow.specs.Bytecode.declared.insn.JOp.TheVariants as jop
 use Rattle.cjc_int_narrow.specs.Bytecode.declared.method_code.MethodCode.{MethodCode}
-use Rattle.cjc_int_narrow.specs.Script.Sorts.{field_sort}
 use Rattle.cjc_check_proof.specs.Types.declared.state.State.{State}
 use Rattle.cjc_check_proof.specs.Intervals.Frames.{RangeState}
 use Rattle.cjc_check_proof.specs.JvmSemantics.Linked.{Method}
@@ -18,12 +16,11 @@ use Rattle.cjc_check_proof.specs.TokenProof.WrittenSends.Named.{no_key}
 use Rattle.cjc_check_proof.proofs.TokenProofWrittenSendsOperations.{selected_names}
 use Rattle.cjc_ncode.specs.IntCode.IntCode.{Reached}
 use Rattle.cjc_ncode.specs.PoolOrder.{insn_keys}
-use Rattle.cjc_ncode.specs.Written.{Resolution, static_access, static_by, written}
+use Rattle.cjc_ncode.specs.Written.{Resolution, static_by, written}
 use Rattle.cjc_ncode.specs.declared.narrow.NInsn.{NInsn}
 use Rattle.cjc_ncode.specs.declared.narrow.NInsn.TheVariants as insns
 use Rattle.cjc_ncode.specs.declared.narrow.NMethod.{NMethod}
 use Rattle.cjc_ncode.specs.declared.narrow.PairRole.TheVariants.{Alone}
-use Rattle.cjc_ncode.specs.declared.narrow.PoolKey.TheVariants as keys
 use Rattle.cjc_int_narrow.specs.LowerNarrow.Rows.Package.{flags_of, read_of, tree_of}
 use Rattle.cjc_int_narrow.specs.LowerNarrow.Rows.Resolved.{constant_named, method_found, resolution}
 use Rattle.cjc_int_narrow.specs.LowerNarrow.Rows.Selected.{near_fields}
@@ -32,10 +29,11 @@ use Rattle.cjc_int_narrow.specs.LowerIntMode.declared.modes.Mode.{Mode}
 use Rattle.cjc_int_narrow.specs.LowerIntMode.declared.modes.Mode.TheVariants as modes
 use Rattle.cjc_int_narrow.specs.LowerIntProof.Operands.{names_nothing}
 use Rattle.cjc_int_components.specs.Modes.{Tables}
-use Rattle.cjc_int_components.specs.Names.{NamesAs, NamesAsOneOf, PutsNoConstants, as_one, no_name, nothing, outside}
-use Rattle.cjc_int_components.specs.Names.{static_field}
-use Rattle.cjc_int_components.specs.Written.{IsPackageByModes, code_by_mode, code_in, int_code_of}
-use Rattle.cjc_int_components.proofs.Naming.{all_named}
+use Rattle.cjc_int_selection.specs.Names.{NamesAs, NamesAsOneOf, as_one, no_name, nothing, outside}
+use Rattle.cjc_int_components.specs.Names.{PutsNoConstants}
+use Rattle.cjc_int_selection.specs.Names.{static_field}
+use Rattle.cjc_int_components.specs.Written.{IsPackageByModes, code_by_mode, code_in}
+use Rattle.cjc_int_selection.proofs.Naming.{all_named}
 
 -- ---- reached instructions
 

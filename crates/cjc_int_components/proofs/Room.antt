@@ -1,12 +1,11 @@
 -- Room for methods by their modes, and the limits of a package without int mode.
-use Rattle.std.proofs.Common.{◌≡◌, ◌<◌, ◌≤◌, ◌+◌, ℕ, zero, suc, arith, refl, sym, ap, subst, ◌∙◌, Bool, true, false}
+use Rattle.std.proofs.Common.{◌≡◌, ◌≤◌, ◌+◌, ℕ, suc, arith, refl, sym, ap, subst, ◌∙◌, Bool, true, false}
 use Rattle.std.proofs.Common.{List}
 use Rattle.std.proofs.Common.{[], ◌∷◌, ◌++◌}
-use Rattle.std.specs.Prelude.{Option, Some, None, not, nat_lt, ◌&&◌, ◌||◌, if◌then◌else◌, slice_get}
-use Rattle.std.specs.List.{Contains, flat_map, list_any}
+use Rattle.std.specs.Prelude.{Option, Some, None, not, ◌&&◌, ◌||◌, if◌then◌else◌, slice_get}
+use Rattle.std.specs.List.{Contains, flat_map}
 use Rattle.std.proofs.lemmas.Bool.{ltb-false, ltb-true}
-use Rattle.cjc_check_proof.proofs.BytesBools.{or_left, or_right}
-use Rattle.cjc_check_proof.proofs.BytesGets.{any_at, any_off}
+use Rattle.cjc_check_proof.proofs.BytesGets.{any_off}
 use Rattle.cjc_int_narrow.specs.Bytes.Breaks.{Break, at}
 use Rattle.cjc_int_narrow.specs.Bytes.AccessFlags.{is_static}
 use Rattle.cjc_int_narrow.specs.Bytecode.PackageCodes.{all_codes}
@@ -22,10 +21,7 @@ use Rattle.cjc_int_narrow.specs.World.Files.{Files}
 use Rattle.cjc_int_narrow.specs.LowerSubset.Ints.{code_works_on_int}
 use Rattle.cjc_check_proof.specs.Tokens.Members.{is_initialiser}
 use Rattle.cjc_check_proof.specs.Types.Flow.{Body, body_of}
-use Rattle.cjc_check_proof.specs.Types.Search.{cells_of}
 use Rattle.cjc_check_proof.specs.Types.Tables.{IsMethodOf}
-use Rattle.cjc_check_proof.specs.Types.declared.cell.Cell.{Cell}
-use Rattle.cjc_check_proof.specs.Types.declared.cell.Cell.TheVariants as cells
 use Rattle.cjc_check_proof.specs.Types.declared.state.State.{State}
 use Rattle.cjc_check_proof.specs.Intervals.Frames.{RangeState}
 use Rattle.cjc_check_proof.specs.JvmSemantics.Linked.{Method}
@@ -40,70 +36,19 @@ use Rattle.cjc_check_proof.specs.LowerComponents.Package.{LaidMethod, Package, w
 use Rattle.cjc_check_proof.specs.NarrowProof.Selected.Keeps.{FindsItself}
 use Rattle.cjc_int_narrow.proofs.IntModeNamed.{names_same}
 use Rattle.cjc_int_narrow.specs.LowerIntMode.Modes.{IsModeOf, by_name, names_int}
-use Rattle.cjc_int_narrow.specs.LowerIntMode.Room.{IsRoom, LacksRoom, an_unusable_cell, high_stack, many_arguments}
-use Rattle.cjc_int_narrow.specs.LowerIntMode.Room.{many_words}
-use Rattle.cjc_int_narrow.specs.LowerIntMode.Written.{argument_words, local_words, params_by, stack_words}
+use Rattle.cjc_int_narrow.specs.LowerIntMode.Room.{IsRoom, LacksRoom, many_arguments}
+use Rattle.cjc_int_narrow.specs.LowerIntMode.Written.{argument_words, params_by}
 use Rattle.cjc_int_narrow.specs.LowerIntMode.declared.modes.Mode.{Mode}
 use Rattle.cjc_int_narrow.specs.LowerIntMode.declared.modes.Mode.TheVariants as modes
 use Rattle.cjc_int_components.specs.Components.{has_int_mode, is_in_int_mode}
-use Rattle.cjc_int_components.specs.Limits.{code_breaks_by_modes, has_unusable_cell, int_breaks_by_modes, is_unusable}
+use Rattle.cjc_int_components.specs.Limits.{code_breaks_by_modes, int_breaks_by_modes}
 use Rattle.cjc_int_components.specs.Limits.{lacks_int_room, lacks_room, limit_breaks_by_modes, word_breaks_by_modes}
 use Rattle.cjc_int_components.specs.Modes.{AreModes, Tables, is_int}
+use Rattle.cjc_int_package.proofs.Room.{told_in_int_mode}
 use Rattle.cjc_int_components.proofs.ByModes.{or_false}
 use Rattle.cjc_int_components.proofs.ByTables.{insns_are}
 
 -- ---- room in int mode
-
-module _ (b : Body) (types : List (Option State)) where
-  abbrev words : ℕ
-  words = argument_words b + local_words b types
-
-  abbrev unusable : Bool
-  unusable = list_any has_unusable_cell types
-
-  few_words : lacks_room b types ≡ false → words ≤ 255
-  few_words off = ltb-false 255 words (or_left (nat_lt 255 words) (nat_lt 255 (stack_words b) || unusable) off)
-
-  has_room : lacks_room b types ≡ false → LacksRoom b types modes.Int → ⊥
-  has_room off (many_arguments gt) = let le = few_words off in omega (arith, gt, le)
-  has_room off (many_words gt) = let le = few_words off in omega (arith, gt, le)
-  has_room off (high_stack gt) =
-      let rest = or_right (nat_lt 255 words) (nat_lt 255 (stack_words b) || unusable) off in
-      let le = ltb-false 255 (stack_words b) (or_left (nat_lt 255 (stack_words b)) unusable rest) in
-      omega (arith, gt, le)
-  has_room off (an_unusable_cell place k x row cell) =
-      let rest = or_right (nat_lt 255 words) (nat_lt 255 (stack_words b) || unusable) off in
-      let none = or_right (nat_lt 255 (stack_words b)) unusable rest in
-      let here = any_off has_unusable_cell types place (Some x) none row in
-      let no = any_off is_unusable (cells_of x.stack) k cells.Unusable here cell in
-      cc
-
-  unusable_one : (c : Cell) → is_unusable c ≡ true → c ≡ cells.Unusable
-  unusable_one cells.Unusable e = refl
-  unusable_one _ e = absurd cc
-
-  unusable_there : (place : ℕ) (row : Option State) → slice_get types place ≡ Some row → has_unusable_cell row ≡ true
-      → LacksRoom b types modes.Int
-  unusable_there place None at e = absurd cc
-  unusable_there place (Some x) at e =
-      let c = any_at is_unusable (cells_of x.stack) e in
-      an_unusable_cell place c.0 x at (c.2 ∙ ap Some (unusable_one c.1 c.3))
-
-  lacks : lacks_room b types ≡ true → LacksRoom b types modes.Int
-  lacks on = by (nat_lt 255 words) (nat_lt 255 (stack_words b)) refl refl on
-    where
-      by : (x y : Bool) → nat_lt 255 words ≡ x → nat_lt 255 (stack_words b) ≡ y → (x || (y || unusable)) ≡ true
-          → LacksRoom b types modes.Int
-      by true y p q e = many_words (ltb-true 255 words p)
-      by false true p q e = high_stack (ltb-true 255 (stack_words b) q)
-      by false false p q e = let row = any_at has_unusable_cell types e in unusable_there row.0 row.1 row.2 row.3
-
-  told_in_int_mode : IsRoom b types modes.Int (not (lacks_room b types))
-  told_in_int_mode = by (lacks_room b types) refl
-    where
-      by : (l : Bool) → lacks_room b types ≡ l → IsRoom b types modes.Int (not l)
-      by true e = lacks e
-      by false e = has_room e
 
 module _ (files : Files) (code : MethodCode) (class : ClassTree) (method : MethodTree) (tree : CodeTree)
     (is : IsMethodOf files code class method tree) (found : FindsItself files class method) (t : Tables) where

@@ -1,6 +1,6 @@
-//! The methods of a package some of which are in int mode: which can be selected, and that they are as consistent
-//! components ask. Laws alone: nothing here runs.
-ghost use Rattle.std.specs.Prelude.{◌≡◌, ◌<◌, ◌≤◌, ℕ, List, Option, Some, length, slice_get, true};
+//! The methods of a package some of which are in int mode are as consistent components ask. Laws alone: nothing here
+//! runs.
+ghost use Rattle.std.specs.Prelude.{◌≡◌, ◌<◌, ◌≤◌, ℕ, List, Option, Some, length, slice_get};
 ghost use Rattle.std.specs.List.{Contains};
 ghost use Rattle.cjc_int_narrow.specs.Bytes.declared.fault.MemberId.{MemberId as Member};
 ghost use Rattle.cjc_int_narrow.specs.Bytecode.PackageCodes.{all_codes};
@@ -15,36 +15,22 @@ ghost use Rattle.cjc_ncode.specs.Lowering.Naming.{Naming};
 ghost use Rattle.cjc_ncode.specs.Written.{Resolution};
 ghost use Rattle.cjc_ncode.specs.declared.narrow.NInsn.{NInsn};
 ghost use Rattle.cjc_check_proof.specs.Types.Flow.{body_of};
-ghost use Rattle.cjc_check_proof.specs.Types.Tables.{Breach, IsLeastTable, IsMethodOf};
+ghost use Rattle.cjc_check_proof.specs.Types.Tables.{IsLeastTable, IsMethodOf};
 ghost use Rattle.cjc_check_proof.specs.Types.declared.state.State.{State};
-ghost use Rattle.cjc_int_narrow.specs.World.Classes.{all_classes};
 ghost use Rattle.cjc_int_narrow.specs.ClassFile.Code.{CodeTree};
 ghost use Rattle.cjc_int_narrow.specs.ClassFile.declared.tree.ClassTree.{ClassTree};
 ghost use Rattle.cjc_int_narrow.specs.ClassFile.declared.tree.MethodTree.{MethodTree};
 ghost use Rattle.cjc_int_narrow.specs.World.Files.{Files};
-ghost use Rattle.cjc_check_proof.specs.NarrowProof.Selected.Keeps.{FindsItself, IsSpelt};
+ghost use Rattle.cjc_check_proof.specs.NarrowProof.Selected.Keeps.{FindsItself};
 ghost use Rattle.cjc_check_proof.specs.Code.Caught.{HandlersLie};
 ghost use Rattle.cjc_check_proof.specs.Code.Ends.{AllStayInside};
 ghost use Rattle.cjc_check_proof.specs.Code.Kinds.{AllHaveKinds};
 ghost use Rattle.cjc_check_proof.specs.Code.Written.{AllWritable};
-ghost use Rattle.cjc_int_narrow.specs.LowerIntMode.Room.{IsRoom};
 ghost use Rattle.cjc_int_narrow.specs.LowerIntMode.Written.{written_in_int_mode};
 ghost use Rattle.cjc_int_narrow.specs.LowerIntMode.declared.modes.Mode.TheVariants as modes;
-ghost use Rattle.cjc_int_narrow.specs.Select.{IsSelectable};
 ghost use Rattle.cjc_int_components.specs.Made.{AllAreMadeByMode, IsMadeByMode};
 ghost use Rattle.cjc_int_components.specs.Modes.{AreLeast, Tables};
 ghost use Rattle.cjc_int_components.specs.Written.{IsWrittenByMode};
-
-/// A method of a package can be selected in int mode, where its file spells its class, no instruction that its least
-/// table reaches breaks one of 501 to 503, and there is room for what is written (417).
-pub fn int_methods_are_selectable()
-    ensures { (files : Files) (code : MethodCode) (class : ClassTree) (method : MethodTree) (tree : CodeTree)
-        → IsMethodOf files code class method tree → (bytes : List ℕ) → IsSpelt class bytes
-        → (rows : List (Option State)) → IsLeastTable (body_of class method tree code.insns) rows
-        → ((place rule : ℕ) → Breach (all_classes files) (body_of class method tree code.insns) rows place rule → ⊥)
-        → IsRoom (body_of class method tree code.insns) rows modes.Int true
-        → IsSelectable (body_of class method tree code.insns) rows }
-{}
 
 /// At the least choice of wide jumps, and at most 32,767 bytes by its widest sizes (415), bytes can say a method in int
 /// mode wherever it stands, where they can say each of its instructions, distances to labels aside.

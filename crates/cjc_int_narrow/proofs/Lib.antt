@@ -7,6 +7,10 @@ pub mod Pairs
 pub mod Whole
 pub mod Tables
 pub mod Stands
+pub mod AreNumbers
+pub mod OneLeast
+pub mod Near
+pub mod Values
 -- Lemmas of lower crates, for those above.
 pub use Rattle.cjc_narrow.proofs.TypesAscending as TypesAscending
 pub use Rattle.cjc_narrow.proofs.TypesLowered as TypesLowered

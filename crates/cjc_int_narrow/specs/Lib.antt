@@ -1,3 +1,4 @@
+pub mod Constants
 pub mod Reached
 pub mod Operands
 pub mod Select

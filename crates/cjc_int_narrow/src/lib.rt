@@ -5,6 +5,7 @@
 
 mod calls;
 mod code;
+mod constants;
 mod elements;
 mod frame;
 mod kinds;
@@ -14,6 +15,7 @@ mod method;
 mod names;
 mod numbers;
 mod put;
+mod ranging;
 mod scratch;
 mod stack;
 mod switches;
@@ -21,3 +23,4 @@ mod widest;
 
 pub use known::{Before, befores};
 pub use method::select;
+pub use ranging::{known_before, ranging_of};

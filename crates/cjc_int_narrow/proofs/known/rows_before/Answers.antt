@@ -4,7 +4,6 @@ use Rattle.cjc_int_mode.specs.Fixpoint.Walks.{Walking}
 use Rattle.cjc_narrow.specs.Types.declared.state.State.{State}
 use Rattle.cjc_narrow.specs.Types.Tables.{rows_of, state_of}
 use Rattle.cjc_int_mode.specs.Intervals.Frames.{RangeState}
-use Rattle.cjc_int_narrow.specs.Reached.{known}
 use Rattle.cjc_int_narrow.specs.Select.{rows_before}
 use Rattle.cjc_int_narrow.proofs.Tables.{rows_next, rows_end}
 use Rattle.cjc_int_narrow.proofs.known.rows_before.Goals as goal

@@ -1,5 +1,0 @@
-use Rattle.cjc_int_components.proofs.Numbers.{int_numbers_fit}
-use Rattle.cjc_int_components.proofs.code.int_numbers_fit.Goals as goal
-
-pub returns : goal.returns
-returns c = int_numbers_fit
