@@ -20,6 +20,8 @@ use Rattle.cjc_judge.specs.declared.groups.Group.TheVariants as groups
 use Rattle.cjc_judge.specs.declared.reading.UnsupportedInsn.{UnsupportedInsn}
 use Rattle.cjc_judge.specs.Rules.{BreaksAnyType, BreaksAnyRange, IsFirstRefused, IsFirstIn, IsFirstFault, has_applets}
 use Rattle.cjc_judge.specs.Rules.{settings_of}
+use Rattle.cjc_int_mode.specs.declared.modes.Mode.{Mode}
+use Rattle.cjc_judge.specs.Modes.{AreModesWhereNamed}
 use Rattle.cjc_judge.specs.Types.{AreTablesWhereNamed, asks_types, asks_ranges}
 use Rattle.cjc_judge.specs.Working.Groups.{WorldBreaks, WorldBreaksAny, EarlyBreaks, EarlyBreaksAny, NamedTypeBreaks}
 use Rattle.cjc_judge.specs.Working.Groups.{NamedRangeBreaks}
@@ -83,9 +85,13 @@ pub no_types : (tested : List Group) (world : Files) (codes : List MethodCode) �
     → (b : Break) → NamedTypeBreaks world codes tested b → ⊥
 no_types tested world codes h b (asked, breaks) = not_both (list_any asks_types tested) h asked
 
-pub no_ranges : (tested : List Group) (world : Files) (codes : List MethodCode) → list_any asks_ranges tested ≡ false
-    → (b : Break) → NamedRangeBreaks world codes tested b → ⊥
-no_ranges tested world codes h b (asked, breaks) = not_both (list_any asks_ranges tested) h asked
+pub no_modes : (tested : List Group) (ints : Bool) (world : Files) (codes : List MethodCode) (modes : List Mode)
+    → list_any asks_ranges tested ≡ false → AreModesWhereNamed tested ints world codes modes
+no_modes tested ints world codes modes h asked = not_both (list_any asks_ranges tested) h asked
+
+pub no_ranges : (tested : List Group) (ints : Bool) (world : Files) (codes : List MethodCode)
+    → list_any asks_ranges tested ≡ false → (b : Break) → NamedRangeBreaks ints world codes tested b → ⊥
+no_ranges tested ints world codes h b (asked, breaks) = not_both (list_any asks_ranges tested) h asked
 
 pub types_fault : (tested : List Group) (world : Files) (codes : List MethodCode) (e : Fault)
     → list_any asks_types tested ≡ true → IsFirstFault (BreaksAnyType world codes) e
@@ -93,10 +99,11 @@ pub types_fault : (tested : List Group) (world : Files) (codes : List MethodCode
 types_fault tested world codes e h f = fault_from (BreaksAnyType world codes) (NamedTypeBreaks world codes tested) e
     (λ b breaks. (h, breaks)) (λ r first b breaks. first.first.least b breaks.1) f
 
-pub ranges_fault : (tested : List Group) (world : Files) (codes : List MethodCode) (e : Fault)
-    → list_any asks_ranges tested ≡ true → IsFirstFault (BreaksAnyRange world codes) e
-    → IsFirstFault (NamedRangeBreaks world codes tested) e
-ranges_fault tested world codes e h f = fault_from (BreaksAnyRange world codes) (NamedRangeBreaks world codes tested) e
+pub ranges_fault : (tested : List Group) (ints : Bool) (world : Files) (codes : List MethodCode) (e : Fault)
+    → list_any asks_ranges tested ≡ true → IsFirstFault (BreaksAnyRange ints world codes) e
+    → IsFirstFault (NamedRangeBreaks ints world codes tested) e
+ranges_fault tested ints world codes e h f = fault_from (BreaksAnyRange ints world codes)
+    (NamedRangeBreaks ints world codes tested) e
     (λ b breaks. (h, breaks)) (λ r first b breaks. first.first.least b breaks.1) f
 
 -- who asks for ranges asks for types
@@ -155,8 +162,8 @@ module _ (list : ListTree) (world : Files) (codes : List MethodCode) (unsupporte
       by groups.Limits e = absurd cc
       by groups.Tokens e = absurd cc
 
-  ranges_in : (b : Break) → NamedRangeBreaks world codes tested b → WorldBreaksAny list world codes unsupported_insns
-      tested b
+  ranges_in : (b : Break) → NamedRangeBreaks list.ints world codes tested b
+      → WorldBreaksAny list world codes unsupported_insns tested b
   ranges_in b (h, breaks) = let found = named asks_ranges tested h in (found.0, found.1, found.2, by found.1 found.3)
     where
       by : (g : Group) → asks_ranges g ≡ true → WorldBreaks list world codes unsupported_insns g b
@@ -172,7 +179,7 @@ module _ (list : ListTree) (world : Files) (codes : List MethodCode) (unsupporte
   data Sorted (b : Break) : Type 0 where
     early : EarlyBreaksAny list world codes unsupported_insns tested b → Sorted b
     of_types : NamedTypeBreaks world codes tested b → Sorted b
-    of_ranges : NamedRangeBreaks world codes tested b → Sorted b
+    of_ranges : NamedRangeBreaks list.ints world codes tested b → Sorted b
 
   sorted : (b : Break) → WorldBreaksAny list world codes unsupported_insns tested b → Sorted b
   sorted b (i, g, at, h) = by g at h
@@ -194,8 +201,8 @@ module _ (list : ListTree) (world : Files) (codes : List MethodCode) (unsupporte
   types_low : (b : Break) → NamedTypeBreaks world codes tested b → b.rank.family ≡ 5
   types_low b (h, (k, code, is, breaks)) = type_fifth world code b breaks
 
-  ranges_low : (b : Break) → NamedRangeBreaks world codes tested b → b.rank.family ≡ 6
-  ranges_low b (h, (k, code, is, breaks)) = range_sixth world code b breaks
+  ranges_low : (b : Break) → NamedRangeBreaks list.ints world codes tested b → b.rank.family ≡ 6
+  ranges_low b (h, (k, code, is, breaks)) = range_sixth list.ints world code b breaks
 
   -- the first of the others is the first of all
   pub early_fault : (e : Fault) → IsFirstFault (EarlyBreaksAny list world codes unsupported_insns tested) e
@@ -231,12 +238,12 @@ module _ (list : ListTree) (world : Files) (codes : List MethodCode) (unsupporte
 
     module _ (typed : (b : Break) → NamedTypeBreaks world codes tested b → ⊥) where
       -- and where nothing of types is, the first of ranges
-      pub ranges_first : (e : Fault) → IsFirstFault (NamedRangeBreaks world codes tested) e
+      pub ranges_first : (e : Fault) → IsFirstFault (NamedRangeBreaks list.ints world codes tested) e
           → IsFirstFault (WorldBreaksAny list world codes unsupported_insns tested) e
-      ranges_first e f = fault_from (NamedRangeBreaks world codes tested) (WorldBreaksAny list world codes
+      ranges_first e f = fault_from (NamedRangeBreaks list.ints world codes tested) (WorldBreaksAny list world codes
           unsupported_insns tested) e ranges_in least f
         where
-          least : (r : Refusal) (f : IsFirstRefused (NamedRangeBreaks world codes tested) r) (b : Break)
+          least : (r : Refusal) (f : IsFirstRefused (NamedRangeBreaks list.ints world codes tested) r) (b : Break)
               → WorldBreaksAny list world codes unsupported_insns tested b → NotAfter f.broken.rank b.rank
           least r f b h = by (sorted b h)
             where
@@ -245,7 +252,7 @@ module _ (list : ListTree) (world : Files) (codes : List MethodCode) (unsupporte
               by (of_types k) = absurd (typed b k)
               by (of_ranges k) = f.first.least b k
 
-      pub unbroken : ((b : Break) → NamedRangeBreaks world codes tested b → ⊥) → (b : Break)
+      pub unbroken : ((b : Break) → NamedRangeBreaks list.ints world codes tested b → ⊥) → (b : Break)
           → WorldBreaksAny list world codes unsupported_insns tested b → ⊥
       unbroken ranged b h = by (sorted b h)
         where

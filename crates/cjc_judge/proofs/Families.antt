@@ -262,7 +262,8 @@ type_fifth files code b h =
 -- ---- ranges
 
 -- 601 to 609 are of the sixth hundred
-pub range_sixth : (files : Files) (code : MethodCode) (b : Break) → BreaksRange files code b → b.rank.family ≡ 6
-range_sixth files code b h =
+pub range_sixth : (ints : Bool) (files : Files) (code : MethodCode) (b : Break) → BreaksRange ints files code b
+    → b.rank.family ≡ 6
+range_sixth ints files code b h =
     ap (λ (x : Break). x.rank.family) h.is
-    ∙ of_sixth_hundred files _ h.broken h.breaks
+    ∙ of_sixth_hundred _ files _ h.broken h.breaks

@@ -241,7 +241,7 @@ types_family : (list : ListTree) (files : List (List ℕ)) (b : Break) → Break
 types_family list files b (trees, world, (i, code, at, h)) = type_fifth (files_spelt list trees) code b h
 
 ranges_family : (list : ListTree) (files : List (List ℕ)) (b : Break) → BreaksRanges list files b → b.rank.family ≡ 6
-ranges_family list files b (trees, world, (i, code, at, h)) = range_sixth (files_spelt list trees) code b h
+ranges_family list files b (trees, world, (i, code, at, h)) = range_sixth list.ints (files_spelt list trees) code b h
 
 initialisers_family : (list : ListTree) (files : List (List ℕ)) (b : Break) → BreaksInitialisers list files b
     → b.rank.family ≡ 3
@@ -424,7 +424,8 @@ module _ (list : ListTree) (files : List (List ℕ)) (tested : List Group) (tree
       to_world groups.Types a h = of_types a h
       to_world groups.Ranges a (inl h) = inl (of_types a h)
       to_world groups.Ranges a (inr (us, world, h)) =
-          inr (subst (λ (ts : List FileTree). BreaksAnyRange (files_spelt list ts) (all_codes (classes_of ts)) a)
+          inr (subst (λ (ts : List FileTree). BreaksAnyRange list.ints (files_spelt list ts) (all_codes
+          (classes_of ts)) a)
           (spelt_once us world.0) h)
 
       from_world : (g : Group) (a : Break) → Here g a → BreaksGroup list files g a

@@ -8,6 +8,7 @@ pub mod Thirds
 pub mod Packages
 pub mod Typed
 pub mod Tables
+pub mod Moded
 pub mod Whole
 pub mod Each
 pub mod Early
@@ -21,3 +22,4 @@ pub mod JointLaws
 -- Lemmas of lower crates, for those above.
 pub use Rattle.cjc_clinit.proofs.OneImage as ClinitOneImage
 pub use Rattle.cjc_flow.proofs.TestsLaws.First as FlowFirst
+pub use Rattle.cjc_int_narrow.proofs.AreNumbers as IntNarrowAreNumbers

@@ -15,10 +15,10 @@ use Rattle.cjc_world.specs.ClassFile.declared.tree.ClassTree.{ClassTree}
 use Rattle.cjc_clinit.specs.Bytecode.PackageCodes.{all_codes}
 use Rattle.cjc_world.specs.ExportFile.ExportFile.{export_file}
 use Rattle.cjc_list.specs.Listed.{ListTree}
-use Rattle.cjc_judge.specs.OutOfRange.{IsOutOfRange}
 use Rattle.cjc_judge.specs.Codes.{all_unsupported_insns}
 use Rattle.cjc_judge.specs.Rules.{FileBreach, no_class_file, no_instructions, no_export_file, file_rank, file_refusal}
-use Rattle.cjc_judge.specs.Rules.{code_refusal, method_rank, BreaksFile, BreaksWorld, BreaksNames, HasWrongTypes}
+use Rattle.cjc_judge.specs.Rules.{code_refusal, method_rank, BreaksFile, BreaksWorld, BreaksNames, HasWrongNumbers}
+use Rattle.cjc_judge.specs.Rules.{HasWrongTypes}
 use Rattle.cjc_judge.specs.Rules.{BreaksGroup, files_spelt, settings_of, has_applets, Breach, of_file, of_world}
 use Rattle.cjc_judge.specs.Rules.{of_names, of_group, OnLevels, on_first, on_second, IsFirstRefused, IsFirstBroken}
 use Rattle.cjc_judge.specs.Spelt.{FileTree, of_class, of_export, SpellTrees, classes_of, exports_of}
@@ -179,7 +179,7 @@ module _ (list : ListTree) (files : List (List ℕ)) where
     world.0,
     method_told list.name (files_spelt list trees) (class_lines list.lines files trees world.0)
         (export_lines list.lines files trees world.0)
-        IsOutOfRange code b h,
+        (HasWrongNumbers list.ints) code b h,
   )
 
   one_told : (a b : Break) → IsSpelt list files a → IsSpelt list files b → a.rank ≡ b.rank → a.refusal ≡ b.refusal

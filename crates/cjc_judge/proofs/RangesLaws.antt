@@ -1,4 +1,2 @@
-pub mod AreNumbers
-pub mod OneLeast
 pub mod OneFirst
 pub mod Hundred

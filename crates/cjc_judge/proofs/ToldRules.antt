@@ -270,7 +270,7 @@ module _ (list : List ℕ) (files : Files) (counted : length files.classes ≡ c
       h.is_class) code.method h.method h.is_method h.offset 308)
 
   -- 501 to 503, 601 to 609
-  pub method_told : (Breaks : Files → Body → BrokenAt → Type 0) (code : MethodCode) (b : Break)
+  pub method_told : (Breaks : Files → MethodTree → Body → BrokenAt → Type 0) (code : MethodCode) (b : Break)
       → BreaksMethod Breaks files code b → Told b
   method_told Breaks code b h =
       subst Told (sym h.is)

@@ -21,10 +21,10 @@ use Rattle.cjc_bytes.proofs.Options.{some_same}
 
 -- ---- one method
 
-module _ (Breaks : Files → Body → BrokenAt → Type 0) (files : Files) (code : MethodCode) (class : ClassTree)
-    (method : MethodTree) (tree : CodeTree) (here : IsMethodOf files code class method tree) where
+module _ (Breaks : Files → MethodTree → Body → BrokenAt → Type 0) (files : Files) (code : MethodCode)
+    (class : ClassTree) (method : MethodTree) (tree : CodeTree) (here : IsMethodOf files code class method tree) where
   abbrev IsWrong : BrokenAt → Type 0
-  IsWrong x = Breaks files (body_of class method tree code.insns) x
+  IsWrong x = Breaks files method (body_of class method tree code.insns) x
 
   -- a break of the method is by its own class, method and code
   broken_of : (b : Break) → BreaksMethod Breaks files code b → (x : BrokenAt) × IsWrong x
@@ -35,7 +35,7 @@ module _ (Breaks : Files → Body → BrokenAt → Type 0) (files : Files) (code
       (ap (λ (x : ClassTree). slice_get x.methods code.method) c ∙ here.is_method) in
       let t : h.tree ≡ tree = some_same h.tree tree h.of_package.is_code (ap (λ (x : MethodTree). x.code) m
       ∙ here.is_code) in
-      let P : ClassTree → MethodTree → CodeTree → Type 0 = λ c m t. Breaks files (body_of c m t code.insns) h.broken
+      let P : ClassTree → MethodTree → CodeTree → Type 0 = λ c m t. Breaks files m (body_of c m t code.insns) h.broken
       in (
         h.broken,
         subst (λ (t : CodeTree). P class method t) t (subst (λ (m : MethodTree). P class m h.tree) m

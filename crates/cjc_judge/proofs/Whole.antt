@@ -23,6 +23,7 @@ use Rattle.cjc_judge.specs.Codes.{all_unsupported_insns}
 use Rattle.cjc_judge.specs.Judged.{IsJudged, IsStopped}
 use Rattle.cjc_judge.specs.Rules.{world_files, files_spelt, IsFirstFault}
 use Rattle.cjc_judge.specs.Spelt.{classes_of, IsRead}
+use Rattle.cjc_judge.specs.Modes.{AreModesWhereNamed}
 use Rattle.cjc_judge.specs.Types.{AreTablesWhereNamed}
 use Rattle.cjc_judge.specs.Working.Reading.{IsReadAs, ReadsFiles}
 use Rattle.cjc_judge.specs.Working.Groups.{WorldBreaksAny}
@@ -150,8 +151,9 @@ module _ (list : ListTree) (files : List (List ℕ)) (tested : List Group) (read
         -- what is known where no rule is broken
         pub judged_from : (judged : Judged) → judged.world ≡ world → judged.codes ≡ read.codes
             → ((b : Break) → WorldBreaksAny list world read.codes read.unsupported_insns tested b → ⊥)
-            → AreTablesWhereNamed tested world read.codes judged.types → IsJudged list files tested judged
-        judged_from judged w k none tables = record {
+            → AreTablesWhereNamed tested world read.codes judged.types
+            → AreModesWhereNamed tested list.ints world read.codes judged.modes → IsJudged list files tested judged
+        judged_from judged w k none tables modes = record {
           unbroken = none_broken list files tested all.trees all.spelt spelt_fine spelt_named
               (subst (λ (G : Break → Type 0). (b : Break) → G b → ⊥) groups_spelt none);
           world = w ∙ made ∙ sym (ap (λ (cs : List ClassTree). world_files list cs read.exports) classes)
@@ -167,6 +169,9 @@ module _ (list : ListTree) (files : List (List ℕ)) (tested : List Group) (read
               (subst (λ (cs : List MethodCode). All (IsOfPackage world) cs) (sym k) codes_of_package);
           types = subst (λ (v : Files). AreTablesWhereNamed tested v judged.codes judged.types) (sym w)
               (subst (λ (cs : List MethodCode). AreTablesWhereNamed tested world cs judged.types) (sym k) tables);
+          modes = subst (λ (v : Files). AreModesWhereNamed tested list.ints v judged.codes judged.modes) (sym w)
+              (subst (λ (cs : List MethodCode). AreModesWhereNamed tested list.ints world cs judged.modes) (sym k)
+              modes);
         }
           where
             is_read : judged.world ≡ WorldFiles list read

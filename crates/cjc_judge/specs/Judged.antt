@@ -10,6 +10,7 @@ use Rattle.cjc_judge.specs.declared.groups.Group.{Group}
 use Rattle.cjc_judge.specs.declared.judged.Judged.{Judged}
 use Rattle.cjc_judge.specs.Rules.{Breach, IsFirstBroken, world_files}
 use Rattle.cjc_judge.specs.Trees.{AreRead}
+use Rattle.cjc_judge.specs.Modes.{AreModesWhereNamed}
 use Rattle.cjc_judge.specs.Types.{AreTablesWhereNamed}
 
 -- The package breaks no rule that was tested. Its world is that of the list with the classes and the export files that
@@ -21,6 +22,7 @@ pub record IsJudged (list : ListTree) (files : List (List ℕ)) (tested : List G
   pub read : AreRead list.lines files judged.world judged.codes
   pub of_package : All (IsOfPackage judged.world) judged.codes
   pub types : AreTablesWhereNamed tested judged.world judged.codes judged.types
+  pub modes : AreModesWhereNamed tested list.ints judged.world judged.codes judged.modes
 
 -- The error is that of the first broken rule, or that memory ran out.
 abbrev pub IsStopped : ListTree → List (List ℕ) → List Group → Fault → Type 0

@@ -4,6 +4,7 @@ pub mod Rules
 pub mod Trees
 pub mod Types
 pub mod Judged
+pub mod Modes
 pub mod Joint
 pub mod Working
 pub mod OutOfRange
@@ -11,3 +12,5 @@ pub mod OutOfRange
 pub mod World
 pub mod LowerClinit
 pub mod LowerFlow
+pub mod LowerIntMode
+pub mod LowerIntNarrow

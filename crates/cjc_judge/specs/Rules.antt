@@ -32,6 +32,7 @@ use Rattle.cjc_vtable.specs.LowerTokens.Rules.{tested_breaks}
 use Rattle.cjc_clinit.specs.Subset.Places.{at_method, of_code}
 use Rattle.cjc_narrow.specs.Types.Flow.{Body, body_of}
 use Rattle.cjc_narrow.specs.Types.Tables.{IsMethodOf, IsBrokenBy}
+use Rattle.cjc_judge.specs.Modes.{may_be_int}
 use Rattle.cjc_judge.specs.OutOfRange.{IsOutOfRange}
 use Rattle.cjc_clinit.specs.Bytecode.PackageCodes.{all_codes}
 use Rattle.cjc_judge.specs.Codes.{all_unsupported_insns}
@@ -199,19 +200,19 @@ method_break files code class method x = broken_at (at_method (file_of files.lin
     x.offset) x.rule
 
 -- The first that a method breaks of some rules, by what its body breaks in the package.
-pub record BreaksMethod (Breaks : Files → Body → BrokenAt → Type 0) (files : Files) (code : MethodCode) (b : Break) :
-    Type 0 where
+pub record BreaksMethod (Breaks : Files → MethodTree → Body → BrokenAt → Type 0) (files : Files) (code : MethodCode)
+    (b : Break) : Type 0 where
   pub class : ClassTree
   pub method : MethodTree
   pub tree : CodeTree
   pub of_package : IsMethodOf files code class method tree
   pub broken : BrokenAt
-  pub breaks : Breaks files (body_of class method tree code.insns) broken
+  pub breaks : Breaks files method (body_of class method tree code.insns) broken
   pub is : b ≡ method_break files code class method broken
 
 -- 501 to 503: a method breaks the first of them at the first of its instructions that breaks one
-abbrev pub HasWrongTypes : Files → Body → BrokenAt → Type 0
-HasWrongTypes files b broken = IsBrokenBy (all_classes files) b broken
+abbrev pub HasWrongTypes : Files → MethodTree → Body → BrokenAt → Type 0
+HasWrongTypes files m b broken = IsBrokenBy (all_classes files) b broken
 
 -- a method of the package breaks one of 501 to 503
 abbrev pub BreaksType : Files → MethodCode → Break → Type 0
@@ -226,19 +227,24 @@ abbrev pub BreaksTypes : ListTree → List (List ℕ) → Break → Type 0
 BreaksTypes list files b = (trees : List FileTree) × AreWorld list files trees × BreaksAnyType (files_spelt list trees)
     (all_codes (classes_of trees)) b
 
--- 601 to 609: a method that breaks none of 501 to 503 breaks the first of them at the first of its instructions that
--- breaks one
-abbrev pub BreaksRange : Files → MethodCode → Break → Type 0
-BreaksRange files code b = BreaksMethod IsOutOfRange files code b
+-- 601 to 609, of which 605 and 607 to 609 alone bind a method in int mode: a method that breaks none of 501 to 503
+-- breaks the first of them at the first of its instructions that breaks one. `ints` says whether the list has the line
+-- `int`.
+abbrev pub HasWrongNumbers : (ints : Bool) → Files → MethodTree → Body → BrokenAt → Type 0
+HasWrongNumbers ints files m b broken = IsOutOfRange (may_be_int ints m) files b broken
+
+-- a method of the package breaks one of 601 to 609
+abbrev pub BreaksRange : (ints : Bool) → Files → MethodCode → Break → Type 0
+BreaksRange ints files code b = BreaksMethod (HasWrongNumbers ints) files code b
 
 -- some one of these methods breaks one of 601 to 609
-abbrev pub BreaksAnyRange : Files → List MethodCode → Break → Type 0
-BreaksAnyRange files codes b = AnyBreaks (BreaksRange files) codes b
+abbrev pub BreaksAnyRange : (ints : Bool) → Files → List MethodCode → Break → Type 0
+BreaksAnyRange ints files codes b = AnyBreaks (BreaksRange ints files) codes b
 
 -- some method of the package breaks one of 601 to 609
 abbrev pub BreaksRanges : ListTree → List (List ℕ) → Break → Type 0
 BreaksRanges list files b = (trees : List FileTree) × AreWorld list files trees
-    × BreaksAnyRange (files_spelt list trees) (all_codes (classes_of trees)) b
+    × BreaksAnyRange list.ints (files_spelt list trees) (all_codes (classes_of trees)) b
 
 -- ---- groups that a command names
 

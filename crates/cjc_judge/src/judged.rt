@@ -10,10 +10,11 @@ ghost use Rattle.cjc_judge.specs.Rules.{world_files, BreaksFile, IsFirstFault};
 ghost use Rattle.cjc_judge.specs.Spelt.{IsRead, AreFiles};
 
 use crate::groups::Group;
-use crate::judging::test;
+use crate::judging::{Told, test};
 use crate::reading::{Trees, read_files};
 use cjc_bytes::{Bytes, Fault, FileLine, NoMemory, Row};
 use cjc_flow::types::TypeTable;
+use cjc_int_mode::modes::Mode;
 use cjc_list::List;
 use cjc_vtable::bytecode::Codes;
 use cjc_vtable::subset::names;
@@ -35,6 +36,8 @@ pub struct Judged<'a> {
     pub codes: Codes,
     /// The types of each of these methods, where types or ranges were tested.
     pub types: Row<TypeTable>,
+    /// The mode of each of these methods, where ranges were tested; short mode of an initialiser.
+    pub modes: Row<Mode>,
 }
 
 // The lines of a list that name files, in memory of their own.
@@ -118,7 +121,7 @@ pub fn judge<'a>(
     } = read_files(alloc, list.lines.items(), files.items())?;
     let world = world_of(alloc, list, classes, exports)?;
     names(alloc, list.name.items(), &world, &codes)?;
-    let types = test(
+    let Told { types, modes } = test(
         alloc,
         list,
         &world,
@@ -132,5 +135,6 @@ pub fn judge<'a>(
         world,
         codes,
         types,
+        modes,
     })
 }

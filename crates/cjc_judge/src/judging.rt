@@ -9,28 +9,33 @@ ghost use Rattle.cjc_world.specs.ClassFile.Code.{CodeTree};
 ghost use Rattle.cjc_world.specs.ClassFile.declared.tree.ClassTree.{ClassTree};
 ghost use Rattle.cjc_world.specs.ClassFile.declared.tree.MethodTree.{MethodTree};
 ghost use Rattle.cjc_narrow.specs.Types.Tables.{IsMethodOf, IsOfPackage};
+ghost use Rattle.cjc_vtable.specs.LowerTokens.Members.{is_initialiser};
 ghost use Rattle.cjc_vtable.specs.LowerTokens.Rules.{tested_breaks};
 ghost use Rattle.cjc_judge.specs.Rules.{unsupported_break, unsupported_breaks, settings_of, method_break, BreaksType};
 ghost use Rattle.cjc_judge.specs.Rules.{BreaksAnyType, BreaksRange, BreaksAnyRange, IsFirstIn, IsFirstFault};
 ghost use Rattle.cjc_judge.specs.Rules.{IsOfThirdHundred};
+ghost use Rattle.cjc_judge.specs.Modes.{AreModes, AreModesWhereNamed, may_be_int};
 ghost use Rattle.cjc_judge.specs.Types.{AreTables, AreTablesWhereNamed, IsTableOf, asks_ranges, asks_types};
 ghost use Rattle.std.specs.List.{list_any};
 ghost use Rattle.cjc_judge.specs.Working.Groups.{EarlyBreaks, EarlyBreaksAny, NamedTypeBreaks, NamedRangeBreaks};
-ghost use Rattle.cjc_judge.specs.Working.Groups.{WorldBreaksAny, PutsTable};
+ghost use Rattle.cjc_judge.specs.Working.Groups.{WorldBreaksAny, PutsMode, PutsTable};
 
 use crate::groups::Group;
-use crate::ranges::first_out_of_range;
+use crate::ranges::verdict_of;
 use crate::reading::UnsupportedInsn;
 use cjc_bytes::{
     AppletLine, Break, BrokenAt, Bytes, Fault, NoMemory, Row, Settings, answer, file_of, first,
 };
 use cjc_flow::types::{InferError, TypeTable, infer_method};
+use cjc_int_mode::modes::Mode;
 use cjc_list::List;
 use cjc_vtable::bytecode::{Codes, MethodCode};
 use cjc_vtable::subset::{class_spot, first_broken, method_spot};
 use cjc_vtable::tokens::first_high;
 use cjc_world::World;
 use std::alloc::Global;
+
+const INITIALISER: &[u8] = b"<clinit>";
 
 // The applet lines of a list, in memory of their own.
 fn applets_of(alloc: Global, list: &List) -> Result<Row<AppletLine>, NoMemory>
@@ -168,37 +173,69 @@ fn types_break<'w>(
     Ok(least)
 }
 
-// What of 601 to 609 a method breaks that has these types.
+// Whether a method of this name is the initialiser of a class or interface.
+fn is_initialiser(name: &[u8]) -> bool
+    ensures { result ≡ is_initialiser name.now }
+{
+    name == INITIALISER
+}
+
+// Whether a method may be in int mode, where `ints` says whether the list has the line `int`: an initialiser may not.
+fn may_be_int(ints: bool, world: &World<'_>, code: &MethodCode) -> bool
+    requires { IsOfPackage world.now code.now }
+    ensures { (c : ClassTree) (m : MethodTree) (t : CodeTree) → IsMethodOf world.now code.now c m t
+        → result ≡ may_be_int ints m }
+{
+    if !ints {
+        return false;
+    }
+    let class = &world.classes().items()[code.class as usize];
+    let method = &class.methods.items()[code.method as usize];
+    !is_initialiser(method.name.items())
+}
+
+// What of 601 to 609 a method breaks that has these types. Its mode is put behind those that there are.
 fn range_break<'w>(
     alloc: Global,
+    ints: bool,
     world: &'w World<'_>,
     code: &MethodCode,
     types: &TypeTable,
+    modes: &mut Row<Mode>,
 ) -> Result<Option<Break<'w>>, NoMemory>
     requires code { IsOfPackage world.now code.now }
     requires types { IsTableOf world.now code.now types.now }
-    ensures { IfOk result (λ b. IsFirstIn (BreaksRange world.now code.now) (option_map break_of b)) }
+    ensures first { IfOk result (λ b. IsFirstIn (BreaksRange ints world.now code.now) (option_map break_of b)) }
+    ensures modes { OnOk result (PutsMode ints world.now code.now modes.old modes.new) }
 {
-    match first_out_of_range(alloc, world, code, types)? {
+    let may = may_be_int(ints, world, code);
+    let told = verdict_of(alloc, world, code, types, may)?;
+    modes.push(told.mode)?;
+    match told.broken {
         Some(broken) => Ok(Some(method_break(world, code, broken))),
         None => Ok(None),
     }
 }
 
-// The first of the methods that break one of 601 to 609, where these are the types of all.
+// The first of the methods that break one of 601 to 609, where these are the types of all. What is put behind the modes
+// that there are, which is none, are the modes of all.
 fn ranges_break<'w>(
     alloc: Global,
+    ints: bool,
     world: &'w World<'_>,
     codes: &[MethodCode],
     types: &[TypeTable],
+    modes: &mut Row<Mode>,
 ) -> Result<Option<Break<'w>>, NoMemory>
     requires codes { All (IsOfPackage world.now) codes.now }
     requires types { AreTables world.now codes.now types.now }
-    ensures { IfOk result (λ b. IsFirstIn (BreaksAnyRange world.now codes.now) (option_map break_of b)) }
+    requires modes { modes.old ≡ [] }
+    ensures first { IfOk result (λ b. IsFirstIn (BreaksAnyRange ints world.now codes.now) (option_map break_of b)) }
+    ensures modes { OnOk result (AreModes ints world.now codes.now modes.new) }
 {
     let mut least = None;
     for (place, code) in codes.iter().enumerate() {
-        let broken = range_break(alloc, world, code, &types[place])?;
+        let broken = range_break(alloc, ints, world, code, &types[place], modes)?;
         least = first(least, broken);
     }
     Ok(least)
@@ -221,7 +258,7 @@ fn of_third_hundred<'w>(broken: Option<Break<'w>>) -> Option<Break<'w>>
     }
 }
 
-// What of a group is broken first. Types and ranges are left to `named_types` and `test_ranges`: every rule of
+// What of a group is broken first. Types and ranges are left to `named_types` and `named_modes`: every rule of
 // another group stands before theirs.
 fn group_break<'w>(
     alloc: Global,
@@ -343,29 +380,41 @@ fn named_types(
     Ok(types)
 }
 
-// Tests the ranges of all methods, where one of the groups asks for them.
-fn test_ranges(
+// The modes of all methods, whose types these are, where one of the groups asks for ranges.
+fn named_modes(
     alloc: Global,
+    ints: bool,
     world: &World<'_>,
     codes: &Codes,
     types: &Row<TypeTable>,
     groups: &[Group],
-) -> Result<(), Fault>
+) -> Result<Row<Mode>, Fault>
     requires codes { All (IsOfPackage world.now) codes.now }
     requires types { AreTablesWhereNamed groups.now world.now codes.now types.now }
-    ensures unbroken { OnOk result ((b : Broken) → NamedRangeBreaks world.now codes.now groups.now b → ⊥) }
-    ensures refused { IfErr result (IsFirstFault (NamedRangeBreaks world.now codes.now groups.now)) }
+    ensures modes { IfOk result (AreModesWhereNamed groups.now ints world.now codes.now) }
+    ensures unbroken { OnOk result ((b : Broken) → NamedRangeBreaks ints world.now codes.now groups.now b → ⊥) }
+    ensures refused { IfErr result (IsFirstFault (NamedRangeBreaks ints world.now codes.now groups.now)) }
 {
+    let mut modes = Row::new(alloc);
     if !any_asks_ranges(groups) {
-        return Ok(());
+        return Ok(modes);
     }
-    let broken = ranges_break(alloc, world, codes.items(), types.items())?;
-    answer(alloc, broken)
+    let broken = ranges_break(alloc, ints, world, codes.items(), types.items(), &mut modes)?;
+    answer(alloc, broken)?;
+    Ok(modes)
+}
+
+/// What is told of the methods of a package.
+pub(crate) struct Told {
+    /// Their types, where a group asks for them.
+    pub types: Row<TypeTable>,
+    /// Their modes, where a group asks for ranges.
+    pub modes: Row<Mode>,
 }
 
 /// Tests a world, whose methods have these codes and break 303 at these places, for groups of rules. A refusal
-/// is the first of what is broken; else these are the types of all methods, where a group asks for them. They
-/// are inferred only where no other rule is broken, so that what inference costs is bounded by the limits of
+/// is the first of what is broken; else these are the types and the modes of all methods, where a group asks for them.
+/// Types are inferred only where no other rule is broken, so that what inference costs is bounded by the limits of
 /// methods; and ranges are found over types that break no rule.
 pub(crate) fn test(
     alloc: Global,
@@ -374,9 +423,11 @@ pub(crate) fn test(
     codes: &Codes,
     unsupported_insns: &[UnsupportedInsn],
     groups: &[Group],
-) -> Result<Row<TypeTable>, Fault>
+) -> Result<Told, Fault>
     requires { All (IsOfPackage world.now) codes.now }
-    ensures types { IfOk result (AreTablesWhereNamed groups.now world.now codes.now) }
+    ensures types { IfOk result (λ told. AreTablesWhereNamed groups.now world.now codes.now told.types) }
+    ensures modes { IfOk result (λ told. (let l = list.now in AreModesWhereNamed groups.now l.ints world.now codes.now
+        told.modes)) }
     ensures unbroken { OnOk result ((b : Broken) → WorldBreaksAny list.now world.now codes.now unsupported_insns.now
         groups.now b → ⊥) }
     ensures refused { IfErr result (IsFirstFault (WorldBreaksAny list.now world.now codes.now unsupported_insns.now
@@ -385,6 +436,6 @@ pub(crate) fn test(
     let broken = groups_break(alloc, list, world, codes, unsupported_insns, groups)?;
     answer(alloc, broken)?;
     let types = named_types(alloc, world, codes, groups)?;
-    test_ranges(alloc, world, codes, &types, groups)?;
-    Ok(types)
+    let modes = named_modes(alloc, list.ints, world, codes, &types, groups)?;
+    Ok(Told { types, modes })
 }

@@ -2,6 +2,12 @@
 //! every command that starts from class files; it knows nothing of what is written or run.
 #![tactic(auto)]
 
+// Lower crates, for those above.
+/// What crates above take of cjc_int_mode.
+pub mod modes {
+    pub use cjc_int_mode::modes::Mode;
+}
+
 mod groups;
 mod joint;
 mod judged;

@@ -1,5 +1,5 @@
 -- Rules 601 to 609 are of the sixth hundred.
-use Rattle.std.proofs.Common.{◌≡◌, ℕ, refl, List}
+use Rattle.std.proofs.Common.{◌≡◌, Bool, ℕ, refl, List}
 use Rattle.std.specs.Prelude.{◌/◌}
 use Rattle.cjc_bytes.specs.Descriptor.{Part}
 use Rattle.cjc_bytes.specs.declared.breaks.BrokenAt.{BrokenAt}
@@ -38,5 +38,6 @@ range_rule b op types rule k s (an_argument lt is) = kind_rule _ rule s is
 range_rule b op types rule k s (a_result is) = kind_rule _ rule s is
 range_rule b op types rule k s (a_boolean_element is) = refl
 
-pub of_sixth_hundred : (files : Files) (b : Body) (x : BrokenAt) → IsOutOfRange files b x → x.rule / 100 ≡ 6
-of_sixth_hundred files b x h = range_rule b _ _ x.rule _ _ h.first.first.breach.bounds
+pub of_sixth_hundred : (ints : Bool) (files : Files) (b : Body) (x : BrokenAt) → IsOutOfRange ints files b x
+    → x.rule / 100 ≡ 6
+of_sixth_hundred ints files b x h = range_rule b _ _ x.rule _ _ h.first.first.breach.bounds

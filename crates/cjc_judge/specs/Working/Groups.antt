@@ -1,5 +1,5 @@
 -- What a world breaks of each group, and which types are kept.
-use Rattle.std.specs.Prelude.{◌≡◌, ◌⊎◌, true, List, [], ◌∷◌, ◌++◌}
+use Rattle.std.specs.Prelude.{◌≡◌, ◌⊎◌, Bool, true, List, [], ◌∷◌, ◌++◌}
 use Rattle.std.specs.List.{list_any}
 use Rattle.cjc_clinit.specs.Bytecode.declared.method_code.MethodCode.{MethodCode}
 use Rattle.cjc_list.specs.Listed.{ListTree}
@@ -12,6 +12,8 @@ use Rattle.cjc_bytes.specs.Breaks.{Break, Among}
 use Rattle.cjc_judge.specs.declared.groups.Group.{Group}
 use Rattle.cjc_judge.specs.declared.groups.Group.TheVariants as groups
 use Rattle.cjc_judge.specs.declared.reading.UnsupportedInsn.{UnsupportedInsn}
+use Rattle.cjc_int_mode.specs.declared.modes.Mode.{Mode}
+use Rattle.cjc_judge.specs.Modes.{IsModeIn}
 use Rattle.cjc_judge.specs.Types.{asks_types, asks_ranges, IsTableOf}
 use Rattle.cjc_judge.specs.Rules.{unsupported_breaks, settings_of, has_applets, IsOfThirdHundred, BreaksAnyType}
 use Rattle.cjc_judge.specs.Rules.{BreaksAnyRange, AnyBreaks}
@@ -28,7 +30,7 @@ WorldBreaks list world codes unsupported_insns groups.Limits b =
 WorldBreaks list world codes unsupported_insns groups.Tokens b = Among b (tested_breaks (has_applets list) world)
 WorldBreaks list world codes unsupported_insns groups.Types b = BreaksAnyType world codes b
 WorldBreaks list world codes unsupported_insns groups.Ranges b = BreaksAnyType world codes b
-    ⊎ BreaksAnyRange world codes b
+    ⊎ BreaksAnyRange list.ints world codes b
 
 -- of some one of these groups
 abbrev pub WorldBreaksAny : ListTree → Files → List MethodCode → List UnsupportedInsn → List Group → Break → Type 0
@@ -60,9 +62,13 @@ abbrev pub NamedTypeBreaks : Files → List MethodCode → List Group → Break 
 NamedTypeBreaks world codes tested b = (list_any asks_types tested ≡ true) × BreaksAnyType world codes b
 
 -- what is broken of ranges, likewise
-abbrev pub NamedRangeBreaks : Files → List MethodCode → List Group → Break → Type 0
-NamedRangeBreaks world codes tested b = (list_any asks_ranges tested ≡ true) × BreaksAnyRange world codes b
+abbrev pub NamedRangeBreaks : (ints : Bool) → Files → List MethodCode → List Group → Break → Type 0
+NamedRangeBreaks ints world codes tested b = (list_any asks_ranges tested ≡ true) × BreaksAnyRange ints world codes b
 
 -- the types of one method more
 abbrev pub PutsTable : Files → MethodCode → (old new : List TypeTable) → Type 0
 PutsTable world code old new = (table : TypeTable) × (new ≡ old ++ table ∷ []) × IsTableOf world code table
+
+-- the mode of one method more
+abbrev pub PutsMode : (ints : Bool) → Files → MethodCode → (old new : List Mode) → Type 0
+PutsMode ints world code old new = (mode : Mode) × (new ≡ old ++ mode ∷ []) × IsModeIn ints world code mode

@@ -1,7 +1,6 @@
-//! The first number of a method that may lie outside of what its instruction allows.
+//! The mode of a method, and the first of its numbers that may lie outside of what its instruction allows there.
 
-ghost use Rattle.std.specs.Prelude.{◌≡◌, Some, IfOk, IfSome};
-ghost use Rattle.cjc_bytes.specs.declared.breaks.BrokenAt.{BrokenAt as Broken};
+ghost use Rattle.std.specs.Prelude.{◌≡◌, IfOk};
 ghost use Rattle.cjc_world.specs.ClassFile.Code.{CodeTree};
 ghost use Rattle.cjc_world.specs.ClassFile.declared.tree.ClassTree.{ClassTree as ClassFile};
 ghost use Rattle.cjc_world.specs.ClassFile.declared.tree.MethodTree.{MethodTree as ClassMethod};
@@ -9,25 +8,38 @@ ghost use Rattle.cjc_world.specs.Classes.{all_classes};
 ghost use Rattle.cjc_narrow.specs.Types.Flow.{body_of};
 ghost use Rattle.cjc_narrow.specs.Types.Tables.{IsMethodOf, IsOfPackage, IsTypeTable, rows_of};
 ghost use Rattle.cjc_flow.specs.Constants.{values_of};
-ghost use Rattle.cjc_judge.specs.OutOfRange.{constants_of, IsOutOfRange};
+ghost use Rattle.cjc_int_narrow.specs.Constants.{constants_of};
+ghost use Rattle.cjc_judge.specs.OutOfRange.{IsVerdict};
 
-use crate::ranges::constants::values_of;
 use cjc_bytes::{BrokenAt, NoMemory};
 use cjc_flow::Ranging;
-use cjc_flow::tests::passes;
 use cjc_flow::types::TypeTable;
+use cjc_int_mode::modes::Mode;
+use cjc_int_mode::{mode, passes};
+use cjc_int_narrow::ranging_of;
 use cjc_vtable::bytecode::MethodCode;
 use cjc_world::World;
 use std::alloc::Global;
 
+/// What is told of the numbers of a method.
+#[derive(Drop)]
+pub struct Verdict {
+    /// Its mode.
+    pub mode: Mode,
+    /// The first number that may lie outside of what its instruction allows in this mode, by the instructions' order
+    /// and then by the rule: 601 to 609, with the offset of the instruction in bytes.
+    pub broken: Option<BrokenAt>,
+}
+
 // The same, of a method whose intervals are to be found. They are dropped here: no other method needs them.
-fn first_by(
+fn verdict_by(
     alloc: Global,
     world: &World<'_>,
     code: &MethodCode,
     types: &TypeTable,
     ranging: &Ranging<'_>,
-) -> Result<Option<BrokenAt>, NoMemory>
+    ints: bool,
+) -> Result<Verdict, NoMemory>
     requires code { IsOfPackage world.now code.now }
     requires types { (c : ClassFile) (m : ClassMethod) (t : CodeTree) → IsMethodOf world.now code.now c m t
         → IsTypeTable (all_classes world.now) (body_of c m t code.now.insns) types.now }
@@ -38,39 +50,32 @@ fn first_by(
               code.now.insns;
           types = rows_of (body_of c m t code.now.insns) types.now;
         } }
-    ensures broken { (c : ClassFile) (m : ClassMethod) (t : CodeTree) → IsMethodOf world.now code.now c m t
-        → IfOk result (λ found. IfSome found (λ x. IsOutOfRange world.now (body_of c m t code.now.insns) x)) }
-    ensures breaks { (c : ClassFile) (m : ClassMethod) (t : CodeTree) → IsMethodOf world.now code.now c m t
-        → (x : Broken) → IsOutOfRange world.now (body_of c m t code.now.insns) x
-        → IfOk result (λ found. found ≡ Some x) }
+    ensures { (c : ClassFile) (m : ClassMethod) (t : CodeTree) → IsMethodOf world.now code.now c m t
+        → IfOk result (IsVerdict ints world.now (body_of c m t code.now.insns)) }
 {
     let table = ranging.ranges(alloc)?;
-    passes(alloc, world, code, types, ranging, &table)
+    let mode = mode(alloc, world, code, types, ranging, &table, ints)?;
+    let broken = passes(alloc, world, code, types, ranging, &table, mode)?;
+    Ok(Verdict { mode, broken })
 }
 
-/// The first number of a method that may lie outside of what its instruction allows, by the instructions' order
-/// and then by the rule: 601 to 609, with the offset of the instruction in bytes. Nothing where each lies
-/// inside.
+/// The mode of a method, where `ints` says whether it may be in int mode, and the first of its numbers that breaks one
+/// of 601 to 609 there.
 ///
 /// The code is that of a method of the world, and the types are those that `infer` gave for it.
-pub fn first_out_of_range(
+pub fn verdict_of(
     alloc: Global,
     world: &World<'_>,
     code: &MethodCode,
     types: &TypeTable,
-) -> Result<Option<BrokenAt>, NoMemory>
+    ints: bool,
+) -> Result<Verdict, NoMemory>
     requires code { IsOfPackage world.now code.now }
     requires types { (c : ClassFile) (m : ClassMethod) (t : CodeTree) → IsMethodOf world.now code.now c m t
         → IsTypeTable (all_classes world.now) (body_of c m t code.now.insns) types.now }
-
-    // What is answered is the first; and where there is one it is answered.
-    ensures broken { (c : ClassFile) (m : ClassMethod) (t : CodeTree) → IsMethodOf world.now code.now c m t
-        → IfOk result (λ found. IfSome found (λ x. IsOutOfRange world.now (body_of c m t code.now.insns) x)) }
-    ensures breaks { (c : ClassFile) (m : ClassMethod) (t : CodeTree) → IsMethodOf world.now code.now c m t
-        → (x : Broken) → IsOutOfRange world.now (body_of c m t code.now.insns) x
-        → IfOk result (λ found. found ≡ Some x) }
+    ensures { (c : ClassFile) (m : ClassMethod) (t : CodeTree) → IsMethodOf world.now code.now c m t
+        → IfOk result (IsVerdict ints world.now (body_of c m t code.now.insns)) }
 {
-    let values = values_of(alloc, world, code.insns.items())?;
-    let ranging = Ranging::new(alloc, world, code, types, values)?;
-    first_by(alloc, world, code, types, &ranging)
+    let ranging = ranging_of(alloc, world, code, types)?;
+    verdict_by(alloc, world, code, types, &ranging, ints)
 }

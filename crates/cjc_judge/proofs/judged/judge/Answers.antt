@@ -50,5 +50,6 @@ returns-clause-judged c =
       files = c.args.files;
       world = c.in_ok-world.world;
       codes = c.in_ok-classes.field-0.codes;
-      types = c.in_ok-types.types;
-    }) refl refl none c.in_ok-types.ensures.types
+      types = c.in_ok-types.field-0.types;
+      modes = c.in_ok-types.field-0.modes;
+    }) refl refl none c.in_ok-types.ensures.types c.in_ok-types.ensures.modes

@@ -25,16 +25,16 @@ returns-in_err-types-clause-refused c =
     rw (p.1, p.2) (types_first c.args.list.now c.args.world.now c.args.codes.now c.args.unsupported_insns.now
     c.args.groups.now none _ c.in_err-types.ensures.refused)
 
-pub returns-in_err-test_ranges-clause-refused : goal.returns-in_err-test_ranges-clause-refused
-returns-in_err-test_ranges-clause-refused c =
+pub returns-in_err-modes-clause-refused : goal.returns-in_err-modes-clause-refused
+returns-in_err-modes-clause-refused c =
     let found = c.in_ok-broken.ensures in
     let none = none_of (EarlyBreaksAny c.args.list.now c.args.world.now c.args.codes.now c.args.unsupported_insns.now
     c.args.groups.now) (option_map break_of c.in_ok-broken.broken) found.0 found.1 (c.in_ok-answer.ensures.ok
     found.0 found.2) in
-    let p = err_from_is_err_and c.from_residual-in_err-test_ranges.result c.from_residual-in_err-test_ranges.ensures.1
+    let p = err_from_is_err_and c.from_residual-in_err-modes.result c.from_residual-in_err-modes.ensures.1
     in
     rw (p.1, p.2) (ranges_first c.args.list.now c.args.world.now c.args.codes.now c.args.unsupported_insns.now
-    c.args.groups.now none c.in_ok-types.ensures.unbroken _ c.in_err-test_ranges.ensures.refused)
+    c.args.groups.now none c.in_ok-types.ensures.unbroken _ c.in_err-modes.ensures.refused)
 
 pub returns-clause-unbroken : goal.returns-clause-unbroken
 returns-clause-unbroken c =
@@ -43,4 +43,4 @@ returns-clause-unbroken c =
     c.args.groups.now) (option_map break_of c.in_ok-broken.broken) found.0 found.1 (c.in_ok-answer.ensures.ok
     found.0 found.2) in
     unbroken c.args.list.now c.args.world.now c.args.codes.now c.args.unsupported_insns.now c.args.groups.now none
-    c.in_ok-types.ensures.unbroken c.in_ok-test_ranges.ensures.unbroken
+    c.in_ok-types.ensures.unbroken c.in_ok-modes.ensures.unbroken

@@ -22,8 +22,9 @@ pub returns-in-Err-Broken-clause-first : goal.returns-in-Err-Broken-clause-first
 returns-in-Err-Broken-clause-first c =
     let m = c.requires in
     let x = c.in-Err-Broken.broken in
-    let this = broken_this (λ (y : BrokenAt). HasWrongTypes c.args.world.now (body_of m.0 m.1 m.2 c.args.code.now.insns)
-    y) x c.in-Err-Broken.field-0 c.in-Err-Broken.field-0-is (c.in-Err-Broken.ensures.broken m.0 m.1 m.2 m.3) in
+    let this = broken_this (λ (y : BrokenAt). HasWrongTypes c.args.world.now m.1
+    (body_of m.0 m.1 m.2 c.args.code.now.insns) y) x c.in-Err-Broken.field-0 c.in-Err-Broken.field-0-is
+    (c.in-Err-Broken.ensures.broken m.0 m.1 m.2 m.3) in
     broken_method HasWrongTypes c.args.world.now c.args.code.now m.0 m.1 m.2 m.3 x (break_of c.method_break.result)
     (c.method_break.ensures m.0 m.1 m.2 m.3) this
     (λ y h. let k = rw c.in-Err-Broken.field-0-is at c.in-Err-Broken.ensures.breaks m.0 m.1 m.2 m.3 y h
