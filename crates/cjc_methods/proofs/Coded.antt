@@ -24,13 +24,19 @@ use Rattle.cjc_pool.specs.NCode.Written.{narrow_method}
 use Rattle.cjc_narrow.specs.Written.Rows.{by_rows_there, has_rows, has_rows_by, rows_by}
 use Rattle.cjc_components.specs.Descriptor as Descriptor
 use Rattle.cjc_components.specs.Written.{added_words, code_at, code_by, no_code}
-use Rattle.cjc_methods.specs.Ready.{AreReady, AreRows, states}
+use Rattle.cjc_int_mode.specs.Written.{written_in_int_mode}
+use Rattle.cjc_int_mode.specs.declared.modes.Mode.{Mode}
+use Rattle.cjc_int_mode.specs.declared.modes.Mode.TheVariants as modes
+use Rattle.cjc_int_package.specs.Modes.{Tables}
+use Rattle.cjc_int_package.specs.Written.{code_by_mode, code_by_mode_at, code_in, int_code_of}
+use Rattle.cjc_methods.specs.Ready.{AreReady, AreRows, AreTold, states}
+use Rattle.cjc_methods.specs.Working.ByMode.{selected_by}
 use Rattle.cjc_methods.specs.Working.Places.{HasNone, HasPlace}
 use Rattle.cjc_methods.proofs.Owned.{own_method}
 
 -- ---- the method of a member
 
-found_at : (files : Files) (f : Found) (t : ClassTree) (o : Option MethodTree) → f.imported ≡ false
+pub found_at : (files : Files) (f : Found) (t : ClassTree) (o : Option MethodTree) → f.imported ≡ false
     → slice_get files.classes f.class ≡ Some t → slice_get t.methods (f.member - length t.fields) ≡ o
     → method_at files f ≡ option_map (λ (m : MethodTree). method_by t m m.code) o
 found_at files f t o own is e =
@@ -40,7 +46,7 @@ found_at files f t o own is e =
 
 -- ---- one with code
 
-insns_are : (files : Files) (code : MethodCode) (class : ClassTree) (method : MethodTree) (tree : CodeTree)
+pub insns_are : (files : Files) (code : MethodCode) (class : ClassTree) (method : MethodTree) (tree : CodeTree)
     → IsMethodOf files code class method tree → decoded class method tree ≡ code.insns
 unfolding decoded
 insns_are files code class method tree of =
@@ -145,3 +151,81 @@ module _ (files : Files) (near : List MemberId) (rows : Method → List (Option 
           ∙ nothing_written t method (ready.found f.class (f.member - length t.fields) t method is e)
           ∙ ap (λ (m : Member). no_code (argument_words m.flags m.desc)) (sym (own_method (all_classes files) f.class t
           c f.member method class e))
+
+-- ---- by modes
+
+module _ (files : Files) (near : List MemberId) (codes : List MethodCode) (types : List TypeTable)
+    (modes_of : List Mode) (ready : AreReady files codes types) (t : Tables) (told : AreTold files codes types modes_of
+    t) (f : Found) (own : f.imported ≡ false) where
+  int_selected_for : (code : MethodCode) (class : ClassTree) (method : MethodTree) (tree : CodeTree)
+      (table : TypeTable)
+      → flags_of (method_found (all_classes files) (record {
+        class = class.name;
+        name = method.name;
+        desc = method.desc;
+      })) ≡ method.flags
+      → decoded class method tree ≡ code.insns
+      → t.types (method_by class method (Some tree)) ≡ states code class method tree table
+      → int_code_of files near t (method_by class method (Some tree))
+      ≡ selected_by modes.Int files near code class method tree (states code class method tree table)
+      (t.ranges (method_by class method (Some tree)))
+  int_selected_for code class method tree table found insns same =
+      let m = method_by class method (Some tree) in
+      let r = resolution files near class.name in
+      ap (λ flags. written_in_int_mode r tree (record (body_of class method tree (decoded class method tree)) {
+        flags = flags;
+      }) (t.types m) (t.ranges m)) found
+      ∙ ap (λ is. written_in_int_mode r tree (body_of class method tree is) (t.types m) (t.ranges m)) insns
+      ∙ ap (λ rs. written_in_int_mode r tree (body_of class method tree code.insns) rs (t.ranges m)) same
+
+  pub with_code_by_mode : (k : ℕ) (class : ClassTree) → slice_get files.classes f.class ≡ Some class
+      → (h : HasPlace files codes f.class (f.member - length class.fields) k) → (table : TypeTable)
+      → slice_get types k ≡ Some table → (mode : Mode) → slice_get modes_of k ≡ Some mode
+      → code_by_mode_at files near t f ≡ selected_by mode files near h.code h.class h.method h.tree
+      (states h.code h.class h.method h.tree table) (t.ranges (method_by h.class h.method (Some h.tree)))
+  with_code_by_mode k class is h table is_table mode is_mode =
+      let same : h.class ≡ class = (let p = sym h.is_class ∙ is in cc) in
+      let there : slice_get h.class.methods (f.member - length h.class.fields) ≡ Some h.method =
+      ap (λ (x : ClassTree). slice_get h.class.methods (f.member - length x.fields)) same ∙ h.is_method in
+      let m = method_by h.class h.method (Some h.tree) in
+      let found = ready.found f.class (f.member - length class.fields) h.class h.method h.is_class h.is_method in
+      let insns = insns_are files h.code h.class h.method h.tree h.is_own in
+      let rows = told.rows k h.code table h.is_code is_table h.class h.method h.tree h.is_own in
+      ap (code_by_mode files near t f) (found_at files f h.class (Some h.method) own h.is_class there
+      ∙ ap (λ o. Some (method_by h.class h.method o)) h.is_tree)
+      ∙ ap (λ x. code_in files near t x m) (told.mode k h.code mode h.is_code is_mode h.class h.method h.tree h.is_own)
+      ∙ by mode found insns rows
+    where
+      by : (x : Mode) → flags_of (method_found (all_classes files) (record {
+        class = h.class.name;
+        name = h.method.name;
+        desc = h.method.desc;
+      })) ≡ h.method.flags → decoded h.class h.method h.tree ≡ h.code.insns
+          → t.types (method_by h.class h.method (Some h.tree)) ≡ states h.code h.class h.method h.tree table
+          → code_in files near t x (method_by h.class h.method (Some h.tree))
+          ≡ selected_by x files near h.code h.class h.method h.tree (states h.code h.class h.method h.tree table)
+          (t.ranges (method_by h.class h.method (Some h.tree)))
+      by modes.Short found insns rows = selected_for files near t.types h.code h.class h.method h.tree table found insns
+          rows
+      by modes.Int found insns rows = int_selected_for h.code h.class h.method h.tree table found insns rows
+
+  -- a method without code is not in int mode
+  pub without_code_by_mode : (class : ClassTree) (c : Class) → slice_get files.classes f.class ≡ Some class
+      → class_at (all_classes files) f.imported f.class ≡ Some c → c ≡ declared f.class class
+      → HasNone files f.class (f.member - length class.fields)
+      → (let m = Descriptor.method_in (all_classes files) c f.member in code_by_mode_at files near t f
+      ≡ no_code (argument_words m.flags m.desc))
+  without_code_by_mode class c is at same none =
+      by (slice_get class.methods (f.member - length class.fields)) refl
+      ∙ without_code files near t.types codes types ready f class c own is at same none
+    where
+      by : (o : Option MethodTree) → slice_get class.methods (f.member - length class.fields) ≡ o
+          → code_by_mode_at files near t f ≡ code_at files near t.types f
+      by None e = ap (code_by_mode files near t f) (found_at files f class None own is e)
+          ∙ sym (ap (code_by files near t.types f) (found_at files f class None own is e))
+      by (Some method) e =
+          let there = found_at files f class (Some method) own is e
+          ∙ ap (λ o. Some (method_by class method o)) (none class method is e) in
+          ap (code_by_mode files near t f) there
+          ∙ ap (λ x. code_in files near t x (method_by class method None)) (told.without_code class method)
+          ∙ sym (ap (code_by files near t.types f) there)

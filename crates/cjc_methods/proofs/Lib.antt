@@ -3,13 +3,16 @@ mod Ordered
 mod Reach
 mod Placing
 mod Owned
-mod Coded
+pub mod Coded
+mod Lacking
 mod Same
 mod Own
 pub mod Again
 pub mod Ownership
 mod Spotted
 pub mod Alike
+pub mod ByRows
+pub mod Rooms
 mod Laid
 pub mod LayoutsLaws
 pub mod ComponentLaws

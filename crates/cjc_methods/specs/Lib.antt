@@ -18,3 +18,4 @@ pub mod Narrow
 pub mod Layout
 pub mod Emit
 pub mod LowerPool
+pub mod LowerIntPackage

@@ -3,3 +3,4 @@ pub mod Members
 pub mod Places
 pub mod Methods
 pub mod Spots
+pub mod ByMode

@@ -1,20 +1,19 @@
 //! The narrow code of all methods of a package. Which field instructions have an index of one byte depends on the pool,
 //! and the pool on what code names: so code is selected once to know the pool, and again by the indices that it has.
 
-ghost use Rattle.std.specs.Prelude.{◌≡◌, [], List, Option, false, All, map, IfOk};
-ghost use Rattle.cjc_narrow.specs.Types.declared.state.State.{State as Before};
-ghost use Rattle.cjc_pool.specs.JvmSemantics.Linked.{Method};
+ghost use Rattle.std.specs.Prelude.{◌≡◌, [], All, length, map, IfOk};
 ghost use Rattle.cjc_pool.specs.NCode.PoolOrder.{pool_order};
 ghost use Rattle.cjc_narrow.specs.Rows.Selected.{near_fields};
-ghost use Rattle.cjc_pool.specs.Subset.Ints.{any_works_on_int};
-ghost use Rattle.cjc_components.specs.Written.{code_at};
-ghost use Rattle.cjc_methods.specs.Ready.{AreReady, AreRows, IsOwn};
+ghost use Rattle.cjc_int_package.specs.Modes.{Tables};
+ghost use Rattle.cjc_int_package.specs.Written.{code_by_mode_at};
+ghost use Rattle.cjc_methods.specs.Ready.{AreFree, AreReady, AreTold, IsListed};
 ghost use Rattle.cjc_methods.specs.Words.{HasRoom};
 ghost use Rattle.cjc_methods.specs.Working.Places.{class_places};
 
 use crate::places::class_places;
 use crate::selecting::{Sources, codes_at};
 use cjc_bytes::{NoMemory, Row};
+use cjc_int_mode::modes::Mode;
 use cjc_narrow::bytecode::MethodCode;
 use cjc_narrow::keys::{Numbers, number};
 use cjc_narrow::ncode::NMethod;
@@ -31,12 +30,13 @@ fn pool_of(
     members: &[Found],
 ) -> Result<Numbers, NoMemory>
     requires ready { AreReady world.now sources.codes.now sources.types.now }
-    requires free { any_works_on_int world.now sources.codes.now ≡ false }
+    requires count { length sources.modes.now ≡ length sources.codes.now }
+    requires free { AreFree world.now sources.codes.now sources.modes.now }
     requires places { sources.places.now ≡ class_places 0 world.now.classes }
-    requires own { All (IsOwn world.now) members.now }
-    requires room { All (HasRoom world.now) members.now }
-    ensures { (rows : Method → List (Option Before)) → AreRows world.now sources.entry.codes.now sources.entry.types.now
-        rows → IfOk result (λ pool. pool ≡ pool_order (map (code_at world.now (near_fields []) rows) members.now)) }
+    requires listed { All (IsListed world.now) members.now }
+    requires room { All (HasRoom world.now sources.codes.now sources.types.now sources.modes.now) members.now }
+    ensures { (t : Tables) → AreTold world.now sources.entry.codes.now sources.entry.types.now sources.entry.modes.now t
+        → IfOk result (λ pool. pool ≡ pool_order (map (code_by_mode_at world.now (near_fields []) t) members.now)) }
 {
     let codes = codes_at(alloc, world, sources, &Numbers::new(alloc), members)?;
     number(alloc, codes.items())
@@ -44,25 +44,29 @@ fn pool_of(
 
 /// The narrow code of these members of the package, which are its methods in the order of Method: each with the
 /// short form of a field instruction exactly where the field has an index of one byte in the pool of all.
-/// Abstract methods and those that a class gets from its interfaces have no instructions. None with code works on int.
+/// Each has the code of its mode; abstract methods and those that a class gets from its interfaces have no
+/// instructions.
 pub fn narrow_codes(
     alloc: Global,
     world: &World<'_>,
     codes: &[MethodCode],
     types: &[TypeTable],
+    modes: &[Mode],
     members: &[Found],
 ) -> Result<Row<NMethod>, NoMemory>
     requires ready { AreReady world.now codes.now types.now }
-    requires free { any_works_on_int world.now codes.now ≡ false }
-    requires own { All (IsOwn world.now) members.now }
-    requires room { All (HasRoom world.now) members.now }
-    ensures { (rows : Method → List (Option Before)) → AreRows world.now codes.now types.now rows
-        → IfOk result (λ ns. ns ≡ map (code_at world.now (near_fields (pool_order ns)) rows) members.now) }
+    requires count { length modes.now ≡ length codes.now }
+    requires free { AreFree world.now codes.now modes.now }
+    requires listed { All (IsListed world.now) members.now }
+    requires room { All (HasRoom world.now codes.now types.now modes.now) members.now }
+    ensures { (t : Tables) → AreTold world.now codes.now types.now modes.now t
+        → IfOk result (λ ns. ns ≡ map (code_by_mode_at world.now (near_fields (pool_order ns)) t) members.now) }
 {
     let places = class_places(alloc, world.classes().items())?;
     let sources = Sources {
         codes,
         types,
+        modes,
         places: places.items(),
     };
     let pool = pool_of(alloc, world, sources, members)?;

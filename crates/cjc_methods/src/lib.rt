@@ -49,6 +49,7 @@ pub mod component;
 mod laws;
 pub mod layouts;
 mod method;
+mod modes;
 mod order;
 mod places;
 mod reached;
@@ -57,5 +58,6 @@ mod words;
 
 pub use codes::narrow_codes;
 pub use laws::{codes_are_by_their_own_pool, methods_can_be_laid_out};
+pub use modes::any_in_int_mode;
 pub use order::{method_order, methods_are_own, put_methods};
 pub use words::{method_spot, test_words};

@@ -4,7 +4,7 @@ ghost use Rattle.std.specs.Prelude.{◌≡◌, ◌<◌, ◌^◌, ◌+◌, ◌++�
 ghost use Rattle.cjc_world.specs.Classes.{Class, all_classes, class_at};
 ghost use Rattle.cjc_world.specs.Order.{method_order, methods_of_class};
 ghost use Rattle.cjc_world.specs.Files.{Files};
-ghost use Rattle.cjc_methods.specs.Ready.{AreOrdered, IsOwn};
+ghost use Rattle.cjc_methods.specs.Ready.{AreOrdered, IsListed, IsOwn};
 ghost use Rattle.cjc_methods.specs.Working.Members.{places, written};
 
 use cjc_bytes::{NoMemory, Row};
@@ -94,8 +94,10 @@ pub fn method_order(alloc: Global, world: &World<'_>, order: &[u32]) -> Result<R
     Ok(out)
 }
 
-/// The methods of a package are members of its classes. For whoever goes through them.
+/// The methods of a package are members of its classes, and none is an initialiser. For whoever goes through them.
 pub fn methods_are_own()
-    ensures { (files : Files) (order : List ℕ) → AreOrdered files order
+    ensures own { (files : Files) (order : List ℕ) → AreOrdered files order
         → All (IsOwn files) (method_order (all_classes files)) }
+    ensures listed { (files : Files) (order : List ℕ) → AreOrdered files order
+        → All (IsListed files) (method_order (all_classes files)) }
 {}

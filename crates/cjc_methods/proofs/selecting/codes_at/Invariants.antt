@@ -1,14 +1,13 @@
-use Rattle.std.proofs.Common.{◌≡◌, ◌++◌, List, drop}
-use Rattle.std.specs.Prelude.{map, Option}
-use Rattle.cjc_narrow.specs.Types.declared.state.State.{State}
-use Rattle.cjc_pool.specs.JvmSemantics.Linked.{Method}
+use Rattle.std.proofs.Common.{◌≡◌, ◌++◌, drop}
+use Rattle.std.specs.Prelude.{map}
 use Rattle.cjc_narrow.specs.Rows.Selected.{near_fields}
-use Rattle.cjc_components.specs.Written.{code_at}
-use Rattle.cjc_methods.specs.Ready.{AreRows}
+use Rattle.cjc_int_package.specs.Modes.{Tables}
+use Rattle.cjc_int_package.specs.Written.{code_by_mode_at}
+use Rattle.cjc_methods.specs.Ready.{AreTold}
 use Rattle.cjc_methods.proofs.selecting.codes_at.Given as goal
 
 abbrev pub invariant-loop-member : goal.invariant-loop-member
 invariant-loop-member l =
-    (rows : Method → List (Option State)) → AreRows l.world l.sources.codes.now l.sources.types.now rows
-    → l.out ++ map (code_at l.world (near_fields l.pool) rows) (drop l.member-index l.members)
-    ≡ map (code_at l.world (near_fields l.pool) rows) l.members
+    (t : Tables) → AreTold l.world l.sources.codes.now l.sources.types.now l.sources.modes.now t
+    → l.out ++ map (code_by_mode_at l.world (near_fields l.pool) t) (drop l.member-index l.members)
+    ≡ map (code_by_mode_at l.world (near_fields l.pool) t) l.members
