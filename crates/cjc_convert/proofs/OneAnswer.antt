@@ -49,7 +49,7 @@ module _ (list : ListTree) (files : List (List ℕ)) where
       )
 
   spelt : (b : Break) → BreaksWritten list files b → IsSpelt b
-  spelt b (of_form p d among) = of_draft p d b (λ counted. let all = written_told p counted d.members
+  spelt b (of_form p d t has x tells among) = of_draft p d b (λ counted. let all = written_told p counted d.members t x
       in all.holds b among)
   spelt b (of_size p is none fine among) = let d = package_is_draft list files p is
       in of_draft p d b (λ counted. let all = sizes_told p counted d.members in all.holds b among)

@@ -1,7 +1,7 @@
 -- What is told of a rule that speaks of what is written is told of its place in the order of refusals.
 use Rattle.std.proofs.Common.{◌≡◌, ℕ, zero, suc, ◌+◌, ◌-◌, ◌≤◌, refl, sym, ap, subst, ◌∙◌, arith, Bool, true, false}
 use Rattle.std.proofs.Common.{List, [], ◌∷◌, length, map, flat_map, ⊎_elim, Option, Some, None}
-use Rattle.std.specs.Prelude.{codes, nat_lt, option_map, slice_get, unwrap_or, if◌then◌else◌}
+use Rattle.std.specs.Prelude.{codes, nat_lt, option_map, slice_get, unwrap_or, if◌then◌else◌, ◌||◌}
 use Rattle.std.specs.Str.{bytes_eq}
 use Rattle.std.proofs.lemmas.Bool.{ltb-true}
 use Rattle.std.proofs.lemmas.List.{length-map}
@@ -14,17 +14,21 @@ use Rattle.cjc_captree.specs.ClassOrder.Classes.Numbers.{declared_at}
 use Rattle.cjc_captree.specs.ClassFile.declared.tree.ClassTree.{ClassTree}
 use Rattle.cjc_captree.specs.ClassFile.declared.tree.MethodTree.{MethodTree}
 use Rattle.cjc_shape_proof.specs.Components.Descriptor.{as_added, method_in, methods_with_added, no_member}
-use Rattle.cjc_shape_proof.specs.Components.Limits.{code_breaks, else_of, form_breaks, has_far_types, has_int_code}
-use Rattle.cjc_shape_proof.specs.Components.Limits.{has_large_component, int_breaks}
+use Rattle.cjc_shape_proof.specs.Components.Limits.{else_of, form_breaks, has_far_types, has_int_code}
+use Rattle.cjc_shape_proof.specs.Components.Limits.{has_large_component}
 use Rattle.cjc_shape_proof.specs.Components.Limits.{has_many_entries}
 use Rattle.cjc_shape_proof.specs.Components.Limits.{has_many_words, in_class, is_too_long, layout_breaks, method_spot}
 use Rattle.cjc_shape_proof.specs.Components.Limits.{of_methods}
-use Rattle.cjc_shape_proof.specs.Components.Limits.{order_breaks, size_breaks, spot_of_list, word_breaks}
+use Rattle.cjc_shape_proof.specs.Components.Limits.{order_breaks, size_breaks, spot_of_list}
 use Rattle.cjc_shape_proof.specs.Components.Package.{LaidMethod, Package, world}
 use Rattle.cjc_shape_proof.proofs.JudgeEach.{Each, each_append, each_at, each_more, each_none}
 use Rattle.cjc_shape_proof.proofs.JudgePlaces.{IsFileOf, IsTold, class_files, file_is_of, told_at_class}
 use Rattle.cjc_shape_proof.proofs.JudgePlaces.{told_at_method, told_list}
 use Rattle.cjc_captree.specs.Layout.Refusals.{least, overtaking}
+use Rattle.cjc_shape_proof.specs.LowerIntPackage.Limits.{lacks_int_room, word_breaks_by_modes}
+use Rattle.cjc_shape_proof.specs.LowerIntPackage.Modes.{Tables}
+use Rattle.cjc_shape_proof.specs.LowerMethods.JvmSemantics.OnePackage.{method_at}
+use Rattle.cjc_shape_proof.specs.LowerShape.Whole.Conversion.{code_breaks_where, int_breaks_where}
 use Rattle.cjc_shape_proof.proofs.VTableFiled.{Has, get-has}
 use Rattle.cjc_shape_proof.proofs.VTableNumbers.{at-tree}
 use Rattle.cjc_shape_proof.specs.World.Added.{added}
@@ -228,9 +232,11 @@ module _ (p : Package) (counted : (let v = p.files in length v.classes ≡ class
       by k m e None g = each_none Told
       by k m e (Some c) g = each k m c e g
 
-  words_told : Each Told (of_methods p (word_breaks p))
-  words_told = of_all (word_breaks p) (λ k m c e g. let f = m.member in let x = method_in (world p) c f.member
-      in each_at Told (has_many_words x) (method_spot p c f x 0) 417 (spot_told f c (placed_at k m e) g 0 417))
+  words_told : (t : Tables) → Each Told (of_methods p (word_breaks_by_modes t p))
+  words_told t = of_all (word_breaks_by_modes t p) (λ k m c e g. let f = m.member in
+      let x = method_in (world p) c f.member in
+      each_at Told (has_many_words x || lacks_int_room t p.files (method_at p.files f)) (method_spot p c f x 0) 417
+      (spot_told f c (placed_at k m e) g 0 417))
 
   layouts_told : Each Told (of_methods p (layout_breaks p))
   layouts_told = of_all (layout_breaks p) each
@@ -264,8 +270,10 @@ module _ (p : Package) (counted : (let v = p.files in length v.classes ≡ class
   sizes_told = each_append Told (at (has_far_types p) (spot_of_list p) 411) (at (has_large_component p) (spot_of_list p)
       416) (at_list (has_far_types p) 411) (at_list (has_large_component p) 416)
 
-  codes_told : Each Told (code_breaks p)
-  codes_told = each_else Told (int_breaks p) (form_breaks p) (at_list (has_int_code p) 801) forms_told
+  codes_told : (in_int_mode : Bool) → Each Told (code_breaks_where in_int_mode p)
+  codes_told b = each_else Told (int_breaks_where b p) (form_breaks p) (at_list (b || has_int_code p) 801) forms_told
 
-  pub written_told : Each Told (else_of (of_methods p (word_breaks p)) (code_breaks p))
-  written_told = each_else Told (of_methods p (word_breaks p)) (code_breaks p) words_told codes_told
+  pub written_told : (t : Tables) (in_int_mode : Bool)
+      → Each Told (else_of (of_methods p (word_breaks_by_modes t p)) (code_breaks_where in_int_mode p))
+  written_told t b = each_else Told (of_methods p (word_breaks_by_modes t p)) (code_breaks_where b p) (words_told t)
+      (codes_told b)

@@ -3,7 +3,7 @@ pub mod PreparedLaws
 pub mod WholeLaws
 -- Lemmas of lower crates, for those above.
 pub use Rattle.cjc_judge.proofs.FlowFirst as FlowFirst
-pub use Rattle.cjc_methods.proofs.Alike as MethodsAlike
+pub use Rattle.cjc_methods.proofs.ByRows as MethodsAlike
 pub use Rattle.cjc_exported.proofs.ExportLaws.Own as ExportedOwn
 pub use Rattle.cjc_exported.proofs.ExportLaws.Tokens as ExportedTokens
 pub use Rattle.cjc_judge.proofs.Each as JudgeEach
@@ -14,4 +14,4 @@ pub use Rattle.cjc_judge.proofs.Items as JudgeItems
 pub use Rattle.cjc_judge.proofs.JointLaws as JudgeJointLaws
 pub use Rattle.cjc_judge.proofs.OneRefusal as JudgeOneRefusal
 pub use Rattle.cjc_judge.proofs.Places as JudgePlaces
-pub use Rattle.cjc_judge.proofs.RangesLaws.AreNumbers as JudgeAreNumbers
+pub use Rattle.cjc_int_narrow.proofs.AreNumbers as JudgeAreNumbers

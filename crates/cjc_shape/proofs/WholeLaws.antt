@@ -1,5 +1,6 @@
 pub mod Ordered
 pub mod Drafts
+pub mod Modes
 pub mod Second
 pub mod Ints
 pub mod One

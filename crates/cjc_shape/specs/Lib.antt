@@ -9,3 +9,4 @@ pub mod Pool
 pub mod LowerMethods
 pub mod LowerExported
 pub mod LowerJudge
+pub mod LowerIntPackage

@@ -24,5 +24,6 @@ pub use Rattle.cjc_shape.proofs.PreparedLaws.Limited as ShapeLimited
 pub use Rattle.cjc_shape.proofs.PreparedLaws.Sound as ShapeSound
 pub use Rattle.cjc_shape.proofs.WholeLaws.Drafts as ShapeDrafts
 pub use Rattle.cjc_shape.proofs.WholeLaws.Ints as ShapeInts
+pub use Rattle.cjc_shape.proofs.WholeLaws.Modes as ShapeModes
 pub use Rattle.cjc_shape.proofs.WholeLaws.One as ShapeOne
 pub use Rattle.cjc_shape.proofs.WholeLaws.Second as ShapeSecond

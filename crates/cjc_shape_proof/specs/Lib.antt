@@ -13,3 +13,4 @@ pub mod LowerMethods
 pub mod LowerCheckProof
 pub mod LowerJudge
 pub mod LowerShape
+pub mod LowerIntPackage

@@ -50,6 +50,7 @@ use cjc_check_proof::token_proof::written_calls::{
     calls_reach, calls_take_objects_alike, entries_are_called, methods_stand, sent_methods_stand,
 };
 use cjc_components::layout::order_changes_no_search;
+use cjc_narrow_proof::intervals::range_laws::least_ranges_exist;
 use cjc_narrow_proof::ncode::lowering::runs_agree;
 use cjc_shape::judged::pooled_methods_are_emittable;
 use cjc_shape::methods::methods_can_be_laid_out;
@@ -125,6 +126,7 @@ pub fn converted_methods_are_consistent()
 {
     classes_keep_rules();
     converted_methods_are_emittable();
+    least_ranges_exist();
     methods_can_be_laid_out();
     made_methods_are_consistent();
     packages_have_their_methods();
@@ -137,6 +139,7 @@ pub fn converted_methods_are_ready()
         → IsConverted list files judged p → NamesAreThere p → AreReady p }
 {
     converted_methods_are_emittable();
+    least_ranges_exist();
     methods_can_be_laid_out();
     pooled_methods_are_emittable();
 }
@@ -182,6 +185,7 @@ pub fn converted_packages_are_runnable()
 {
     checked_packages_are_runnable();
     converted_methods_are_ready();
+    least_ranges_exist();
     methods_can_be_laid_out();
 }
 

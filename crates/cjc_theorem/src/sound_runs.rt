@@ -28,7 +28,7 @@ ghost use Rattle.cjc_shape_proof.specs.WorldProof.Files.{ExportsAreSound};
 ghost use Rattle.cjc_token_proof.specs.Types.Flow.{body_of};
 ghost use Rattle.cjc_token_proof.specs.Types.Tables.{IsMethodOf, IsTypeTable, rows_of};
 ghost use Rattle.cjc_token_proof.specs.Types.declared.table.TypeTable.{TypeTable};
-ghost use Rattle.cjc_shape_proof.specs.LowerShape.Whole.Conversion.{IsDraft, IsPackageOf};
+ghost use Rattle.cjc_shape_proof.specs.LowerShape.Whole.Conversion.{AreShort, IsDraft, IsPackageOf};
 ghost use Rattle.cjc_world.specs.Classes.{all_classes};
 ghost use Rattle.cjc_token_proof.specs.WrittenCalls.Standing.{laid_code};
 
@@ -36,10 +36,10 @@ use crate::whole_runs::whole_packages_run_alike;
 use cjc_narrow_proof::intervals::range_laws::least_ranges_exist;
 
 /// Each number that an instruction takes lies where its rules say, by the least intervals of each method of a
-/// package that breaks no rule.
+/// package that breaks no rule, and none of whose methods is in int mode.
 pub fn numbers_of_sound_packages_fit()
     ensures { (list : ListTree) (files : List (List ℕ)) (judged : Judged) → IsSound list files judged
-        → (k : ℕ) (code : MethodCode) → slice_get judged.codes k ≡ Some code
+        → AreShort list.ints judged.world → (k : ℕ) (code : MethodCode) → slice_get judged.codes k ≡ Some code
         → (class : ClassTree) (method : MethodTree) (tree : CodeTree)
         → IsMethodOf judged.world code class method tree
         → (table : TypeTable) → IsTypeTable (all_classes judged.world) (body_of class method tree code.insns) table
@@ -50,20 +50,20 @@ pub fn numbers_of_sound_packages_fit()
 {}
 
 /// Of a list that was read and files that break no rule, over sound export files, each method has its least tables,
-/// where none with code works on int. So the run of the package's class files by name and the run of its narrow code
-/// agree, for every script: of the notes of any two runs one begins with the other; where the run by name of n
-/// instructions is not Running, the narrow run of at least 2n ends alike; where the narrow run of n is not Running,
-/// the run by name of at least 65,536 (n + 1) ends alike, each with the same outcome, heap and static cells; and
-/// neither is ever stuck. It is so of the package before its methods are laid out, whatever static image its
+/// where none with code works on int, and none is in int mode. So the run of the package's class files by name and the
+/// run of its narrow code agree, for every script: of the notes of any two runs one begins with the other; where the
+/// run by name of n instructions is not Running, the narrow run of at least 2n ends alike; where the narrow run of n is
+/// not Running, the run by name of at least 65,536 (n + 1) ends alike, each with the same outcome, heap and static
+/// cells; and neither is ever stuck. It is so of the package before its methods are laid out, whatever static image its
 /// initialisers make, and of the package that is written.
 pub fn sound_packages_run_alike()
     ensures tabled { (list : ListTree) (files : List (List ℕ)) (judged : Judged) → IsRead list
         → IsSound list files judged → any_works_on_int judged.world judged.codes ≡ false
-        → ExportsAreSound judged.world
+        → AreShort list.ints judged.world → ExportsAreSound judged.world
         → (tables : Tables) × IsWhole list.name judged.world judged.codes (settings_of list) tables }
     ensures drafts { (list : ListTree) (files : List (List ℕ)) (judged : Judged) → IsRead list
         → IsSound list files judged → any_works_on_int judged.world judged.codes ≡ false
-        → ExportsAreSound judged.world
+        → AreShort list.ints judged.world → ExportsAreSound judged.world
         → (p : Package) → IsDraft list files p → (let w = p.files in IsImage p.files (all_codes w.classes) p.image)
         → (script : Script)
         → Agree 2 (λ n. run_by_name p.files p.image script n) (λ n. narrow_run p.files p.image (laid_code p) script n) }

@@ -13,12 +13,10 @@ use Rattle.cjc_shape_proof.specs.LowerJudge.declared.judged.Judged.{Judged}
 use Rattle.cjc_captree.specs.List.Listed.{ListTree}
 use Rattle.cjc_shape_proof.specs.LowerShape.Prepared.{IsSound, tested}
 use Rattle.cjc_shape_proof.specs.LowerShape.Whole.Conversion.{BreaksWritten, IsDraft, IsPackageOf, IsRefused, of_form}
-use Rattle.cjc_shape_proof.specs.LowerShape.Whole.Conversion.{of_size}
+use Rattle.cjc_shape_proof.specs.LowerShape.Whole.Conversion.{code_breaks_where, of_size}
 use Rattle.cjc_shape_proof.specs.LowerShape.Whole.Working.Shaped.{Stopped}
-use Rattle.cjc_shape_proof.proofs.ShapeDrafts.{narrow_codes}
 use Rattle.cjc_shape_proof.proofs.ShapeOne.{one_package}
-use Rattle.cjc_shape_proof.proofs.ShapeSecond.{both_none, coded_are, fs, is_base, package_is_draft}
-use Rattle.cjc_shape_proof.proofs.ShapeSecond.{words_are}
+use Rattle.cjc_shape_proof.proofs.ShapeSecond.{both_none, no_codes, no_words, package_is_draft}
 use Rattle.cjc_shape_proof.proofs.BytesBrokenRules.{no_among}
 
 module _ (list : ListTree) (files : List (List ℕ)) where
@@ -47,26 +45,11 @@ module _ (list : ListTree) (files : List (List ℕ)) where
 
   module _ (judged : Judged) (is : IsSound list files judged) (p : Package) (whole : IsPackageOf list files p)
       (d : IsDraft list files p) (none : of_methods p (word_breaks p) ≡ []) (fine : code_breaks p ≡ []) where
-    no_words : (q : Package) → IsDraft list files q → of_methods q (word_breaks q) ≡ []
-    no_words q e =
-        words_are list judged.world (fs list files judged is) (narrow_codes list files judged is) q
-        (is_base list files judged is q e)
-        ∙ sym (words_are list judged.world (fs list files judged is) (narrow_codes list files judged is) p
-        (is_base list files judged is p d))
-        ∙ none
-
-    no_forms : (q : Package) → IsDraft list files q → code_breaks q ≡ []
-    no_forms q e =
-        coded_are list judged.world (fs list files judged is) (narrow_codes list files judged is) q
-        (is_base list files judged is q e)
-        ∙ sym (coded_are list judged.world (fs list files judged is) (narrow_codes list files judged is) p
-        (is_base list files judged is p d))
-        ∙ fine
-
     of_sizes : (a : Break) → BreaksWritten list files a → Among a (size_breaks p)
-    of_sizes a (of_form q e among) =
-        absurd (no_among a (subst (λ bs. Among a bs) (ap (λ bs. else_of bs (code_breaks q)) (no_words q e)
-        ∙ no_forms q e) among))
+    of_sizes a (of_form q e t has b tells among) =
+        absurd (no_among a (subst (λ bs. Among a bs)
+        (ap (λ bs. else_of bs (code_breaks_where b q)) (no_words list files judged is p q d e whole.short none t has)
+        ∙ no_codes list files judged is p q d e whole.short fine b tells) among))
     of_sizes a (of_size q of_package n f among) = subst (λ r. Among a (size_breaks r)) (one_package list files judged is
         q p of_package whole) among
 

@@ -1,5 +1,6 @@
 -- The methods of a package that was tested keep the rules that selection rests on.
-use Rattle.std.proofs.Common.{◌≡◌, ℕ, zero, suc, refl, sym, ap, subst, ◌∙◌, List, [], ◌∷◌, slice_get, Some, false}
+use Rattle.std.proofs.Common.{◌≡◌, ℕ, zero, suc, refl, sym, ap, subst, ◌∙◌, List, [], ◌∷◌, slice_get, Some, true, false}
+use Rattle.std.specs.Prelude.{Option}
 use Rattle.std.proofs.lemmas.Option.{get_or_from_slice_get, slice_get_within}
 use Rattle.cjc_exported.specs.Bytes.Format.{FileSpells}
 use Rattle.cjc_exported.specs.Bytes.declared.fault.MemberId.{MemberId}
@@ -20,10 +21,18 @@ use Rattle.cjc_judge.specs.Trees.{AllSpelt}
 use Rattle.cjc_judge.specs.Types.{AreTables, IsTableOf}
 use Rattle.cjc_methods.specs.Layout.Layouts.{IsWhole}
 use Rattle.cjc_methods.specs.List.Listed.{ListTree}
+use Rattle.cjc_int_narrow.proofs.Stands.{int_code_whole}
+use Rattle.cjc_int_narrow.specs.Select.{IsSelectable as IsIntSelectable}
+use Rattle.cjc_int_selection.proofs.Selectable.{int_selectable}
+use Rattle.cjc_intervals.specs.Frames.{RangeState}
 use Rattle.cjc_judge.proofs.Firsts.{all_spell}
+use Rattle.cjc_methods.specs.LowerIntPackage.LowerIntMode.Room.{IsRoom}
+use Rattle.cjc_methods.specs.LowerIntPackage.LowerIntMode.Written.{written_in_int_mode}
+use Rattle.cjc_methods.specs.LowerIntPackage.LowerIntMode.declared.modes.Mode.TheVariants as modes
+use Rattle.cjc_methods.specs.Narrow.Rows.Resolved.{resolution}
 use Rattle.cjc_methods.specs.Narrow.Rows.Selected.{selected_code}
 use Rattle.cjc_methods.specs.Narrow.Select.Select.{IsSelectable}
-use Rattle.cjc_narrow_proof.specs.Selected.Keeps.{KeepsRules}
+use Rattle.cjc_narrow_proof.specs.Selected.Keeps.{IsSpelt, KeepsRules}
 use Rattle.cjc_narrow_proof.proofs.SelectedLaws.Selectable.{selectable}
 use Rattle.cjc_narrow_proof.proofs.SelectedLaws.Whole.{selected_whole}
 use Rattle.cjc_methods.specs.Subset.Checks.{check_breaks}
@@ -176,19 +185,31 @@ module _ (list : ListTree) (files : List (List ℕ)) (judged : Judged) (is : IsT
       typed = types.unbroken;
     }
 
-    pub judged_selectable : code_works_on_int judged.world code ≡ false → IsSelectable method tree code.insns
-        (has_rows (states code class method tree table))
-    judged_selectable free =
+    -- its file spells its class
+    class_file_spelt : (bytes : List ℕ) × IsSpelt class bytes
+    class_file_spelt =
         let there : slice_get (classes_of trees) code.class ≡ Some class =
         sym (ap (λ cs. slice_get cs code.class) is.judged_by.read.classes) ∙ one.is_method.is_class in
         let found = class_spelt list.lines files trees code.class class is.judged_by.read.spelt there in
         let file = is.are_files found.0 found.1 found.2 in
-        selectable judged.world code class method tree one.is_method found.1 (record {
-          in_bytes = file.0;
-          short = file.1;
-          spelt = found.3;
-        })
-        list.name judged.codes (settings_of list) (states code class method tree table) least (keeps free)
+        (found.1, record { in_bytes = file.0; short = file.1; spelt = found.3 })
+
+    pub judged_selectable : code_works_on_int judged.world code ≡ false → IsSelectable method tree code.insns
+        (has_rows (states code class method tree table))
+    judged_selectable free = selectable judged.world code class method tree one.is_method class_file_spelt.0
+        class_file_spelt.1 list.name judged.codes (settings_of list) (states code class method tree table) least
+        (keeps free)
+
+    pub judged_int_selectable : IsRoom (body_of class method tree code.insns) (states code class method tree table)
+        modes.Int true → IsIntSelectable (body_of class method tree code.insns) (states code class method tree table)
+    judged_int_selectable room = int_selectable judged.world code class method tree one.is_method class_file_spelt.0
+        class_file_spelt.1 (states code class method tree table) least types.unbroken room
+
+    pub judged_int_whole : (near : List MemberId) (ranges : List (Option RangeState))
+        → IsWhole (written_in_int_mode (resolution judged.world near class.name) tree
+        (body_of class method tree code.insns) (states code class method tree table) ranges)
+    judged_int_whole near ranges = int_code_whole judged.world code class method tree one.is_method
+        (states code class method tree table) least ranges (resolution judged.world near class.name)
 
     pub judged_whole : (near : List MemberId) → IsWhole (selected_code judged.world near class method tree code.insns
         (rows_by (has_rows (states code class method tree table))))

@@ -32,7 +32,7 @@ use Rattle.cjc_methods.proofs.BytesBools.{both_front, both_back}
 -- ---- the definition
 
 -- the class and the method that a code is of
-record Own : Type 0 where
+pub record Own : Type 0 where
   pub class : ClassTree
   pub method : MethodTree
   pub tree : CodeTree
@@ -49,10 +49,10 @@ own_class : (method : ℕ) → Option ClassTree → Option Own
 own_class i None = None
 own_class i (Some c) = own_method c (slice_get c.methods i)
 
-own : Files → MethodCode → Option Own
+pub own : Files → MethodCode → Option Own
 own files code = own_class code.method (slice_get files.classes code.class)
 
-is_named : Option Own → MemberId → Bool
+pub is_named : Option Own → MemberId → Bool
 is_named None id = false
 is_named (Some o) id = let class = o.class in let m = o.method in bytes_eq class.name id.class
     && (bytes_eq m.name id.name && bytes_eq m.desc id.desc)
@@ -126,48 +126,77 @@ module _ (files : Files) (list : List ℕ) (listed : length files.classes ≤ cl
     abbrev id : MemberId
     id = record { class = class.name; name = method.name; desc = method.desc }
 
-    own_named : is_named (own files code) id ≡ true
+    pub own_named : is_named (own files code) id ≡ true
     unfolding is_named
     own_named = ap (λ o. is_named o id) (own_of files code class method tree is)
         ∙ ap (λ b. b && (bytes_eq method.name method.name && bytes_eq method.desc method.desc)) (name_is class.name)
         ∙ ap (λ b. b && bytes_eq method.desc method.desc) (name_is method.name) ∙ name_is method.desc
 
+    -- another code of the same name is of the same method
+    same_code : (c : MethodCode) (d : ClassTree) (m : MethodTree) (t : CodeTree) → IsMethodOf files c d m t
+        → d.name ≡ class.name → m.name ≡ method.name → m.desc ≡ method.desc
+        → (m ≡ method) × (body_of d m t c.insns ≡ body_of class method tree code.insns)
+    same_code c d m t of names own_names descs = by n_same
+      where
+        n_same : c.class ≡ code.class
+        n_same = same_class c.class code.class d class of.is_class is.is_class names
+
+        some : {A : Type 0} {x y : A} → Some x ≡ Some y → x ≡ y
+        some e = cc
+
+        right : (r : Result (List JInsn) BrokenAt) (x y : List JInsn) → r ≡ Ok x → r ≡ Ok y → x ≡ y
+        right r x y e f = let g = sym e ∙ f in cc
+
+        by : c.class ≡ code.class → (m ≡ method) × (body_of d m t c.insns ≡ body_of class method tree code.insns)
+        by e =
+            let classes : d ≡ class = some (sym of.is_class ∙ ap (slice_get files.classes) e ∙ is.is_class) in
+            let there : slice_get class.methods c.method ≡ Some m =
+            ap (λ (v : ClassTree). slice_get v.methods c.method) (sym classes) ∙ of.is_method in
+            let places : c.method ≡ code.method = same_method code.class c.method code.method class m method
+            is.is_class there is.is_method own_names descs in
+            let methods : m ≡ method = some (sym there ∙ ap (slice_get class.methods) places ∙ is.is_method) in
+            let trees : t ≡ tree = some (sym of.is_code ∙ ap (λ (v : MethodTree). v.code) methods ∙ is.is_code) in
+            let insns : c.insns ≡ code.insns = right (decoding_at class code.method) c.insns code.insns
+            (sym (ap (decoding_at class) places) ∙ sym (ap (λ v. decoding_at v c.method) classes)
+            ∙ of.insns) is.insns in
+            let bodies : body_of d m t c.insns ≡ body_of class method tree code.insns =
+            ap (λ v. body_of v m t c.insns) classes ∙ ap (λ v. body_of class v t c.insns) methods
+            ∙ ap (λ v. body_of class method v c.insns) trees ∙ ap (body_of class method tree) insns in
+            (methods, bodies)
+
+    -- what is named so is of this name
+    same_names : (c : MethodCode) (d : ClassTree) (m : MethodTree) (t : CodeTree) → IsMethodOf files c d m t
+        → is_named (own files c) id ≡ true → (d.name ≡ class.name) × (m.name ≡ method.name) × (m.desc ≡ method.desc)
+    unfolding is_named
+    same_names c d m t of g =
+        let named : (bytes_eq d.name class.name && (bytes_eq m.name method.name && bytes_eq m.desc method.desc)) ≡ true
+        = sym (ap (λ x. is_named x id) (own_of files c d m t of)) ∙ g in
+        let members = both_back (bytes_eq d.name class.name) (bytes_eq m.name method.name
+        && bytes_eq m.desc method.desc) named in (
+          bytes_true d.name class.name (both_front (bytes_eq d.name class.name) (bytes_eq m.name method.name
+              && bytes_eq m.desc method.desc) named),
+          bytes_true m.name method.name (both_front (bytes_eq m.name method.name) (bytes_eq m.desc method.desc)
+              members),
+          bytes_true m.desc method.desc (both_back (bytes_eq m.name method.name) (bytes_eq m.desc method.desc) members),
+        )
+
+    -- so a code that is named so is of this method
+    pub named_code : (c : MethodCode) (d : ClassTree) (m : MethodTree) (t : CodeTree) → IsMethodOf files c d m t
+        → is_named (own files c) id ≡ true
+        → (m ≡ method) × (body_of d m t c.insns ≡ body_of class method tree code.insns)
+    named_code c d m t of g = let n = same_names c d m t of g in same_code c d m t of n.0 n.1 n.2
+
     module _ (table : TypeTable) (is_table : IsTypeTable w (body_of class method tree code.insns) table) where
       -- another code of the same name has the same rows
       same_rows : (c : MethodCode) (d : ClassTree) (m : MethodTree) (t : CodeTree) (q : TypeTable)
-          → IsMethodOf files c d m t → IsTypeTable w (body_of d m t c.insns) q → d.name ≡ class.name
-          → m.name ≡ method.name → m.desc ≡ method.desc
+          → IsMethodOf files c d m t → IsTypeTable w (body_of d m t c.insns) q → is_named (own files c) id ≡ true
           → states c d m t q ≡ states code class method tree table
-      same_rows c d m t q of is_q names own_names descs = by n_same
-        where
-          n_same : c.class ≡ code.class
-          n_same = same_class c.class code.class d class of.is_class is.is_class names
-
-          some : {A : Type 0} {x y : A} → Some x ≡ Some y → x ≡ y
-          some e = cc
-
-          right : (r : Result (List JInsn) BrokenAt) (x y : List JInsn) → r ≡ Ok x → r ≡ Ok y → x ≡ y
-          right r x y e f = let g = sym e ∙ f in cc
-
-          by : c.class ≡ code.class → states c d m t q ≡ states code class method tree table
-          by e =
-              let classes : d ≡ class = some (sym of.is_class ∙ ap (slice_get files.classes) e ∙ is.is_class) in
-              let there : slice_get class.methods c.method ≡ Some m =
-              ap (λ (v : ClassTree). slice_get v.methods c.method) (sym classes) ∙ of.is_method in
-              let places : c.method ≡ code.method = same_method code.class c.method code.method class m method
-              is.is_class there is.is_method own_names descs in
-              let methods : m ≡ method = some (sym there ∙ ap (slice_get class.methods) places ∙ is.is_method) in
-              let trees : t ≡ tree = some (sym of.is_code ∙ ap (λ (v : MethodTree). v.code) methods ∙ is.is_code) in
-              let insns : c.insns ≡ code.insns = right (decoding_at class code.method) c.insns code.insns
-              (sym (ap (decoding_at class) places) ∙ sym (ap (λ v. decoding_at v c.method) classes)
-              ∙ of.insns) is.insns in
-              let bodies : body_of d m t c.insns ≡ body_of class method tree code.insns =
-              ap (λ v. body_of v m t c.insns) classes ∙ ap (λ v. body_of class v t c.insns) methods
-              ∙ ap (λ v. body_of class method v c.insns) trees ∙ ap (body_of class method tree) insns in
-              ap (λ b. rows_of b q) bodies
-              ∙ one_least (body_of class method tree code.insns) (rows_of (body_of class method tree code.insns) q)
-              (rows_of (body_of class method tree code.insns) table)
-              (subst (λ b. IsTypeTable w b q) bodies is_q).stands.least is_table.stands.least
+      same_rows c d m t q of is_q g =
+          let bodies = (named_code c d m t of g).1 in
+          ap (λ b. rows_of b q) bodies
+          ∙ one_least (body_of class method tree code.insns) (rows_of (body_of class method tree code.insns) q)
+          (rows_of (body_of class method tree code.insns) table)
+          (subst (λ b. IsTypeTable w b q) bodies is_q).stands.least is_table.stands.least
 
       rows_are : (codes : List MethodCode) (tables : List TypeTable) → All (λ c. (d : ClassTree) × (m : MethodTree)
           × (t : CodeTree) × IsMethodOf files c d m t) codes
@@ -186,19 +215,8 @@ module _ (files : Files) (list : List ℕ) (listed : length files.classes ≤ cl
           here : is_named (own files c) id ≡ true → rows_at (own files c) c q ≡ states code class method tree table
           here g =
               let o = of 0 c (omega arith) in
-              let mine = own_of files c o.0 o.1 o.2 o.3 in
-              let named : (bytes_eq o.0.name class.name && (bytes_eq o.1.name method.name
-              && bytes_eq o.1.desc method.desc)) ≡ true = sym (ap (λ x. is_named x id) mine) ∙ g in
-              let classes = bytes_true o.0.name class.name (both_front (bytes_eq o.0.name class.name)
-              (bytes_eq o.1.name method.name && bytes_eq o.1.desc method.desc) named) in
-              let members = both_back (bytes_eq o.0.name class.name) (bytes_eq o.1.name method.name
-              && bytes_eq o.1.desc method.desc) named in
-              let names = bytes_true o.1.name method.name (both_front (bytes_eq o.1.name method.name)
-              (bytes_eq o.1.desc method.desc) members) in
-              let descs = bytes_true o.1.desc method.desc (both_back (bytes_eq o.1.name method.name)
-              (bytes_eq o.1.desc method.desc) members) in
-              ap (λ x. rows_at x c q) mine ∙ same_rows c o.0 o.1 o.2 q o.3 (each 0 c q refl refl o.0 o.1 o.2 o.3)
-              classes names descs
+              ap (λ x. rows_at x c q) (own_of files c o.0 o.1 o.2 o.3)
+              ∙ same_rows c o.0 o.1 o.2 q o.3 (each 0 c q refl refl o.0 o.1 o.2 o.3) g
 
           by : (b : Bool) → is_named (own files c) id ≡ b → (k : ℕ) → slice_get (c ∷ cs) k ≡ Some code
               → slice_get (q ∷ qs) k ≡ Some table

@@ -21,8 +21,9 @@ use Rattle.cjc_judge.specs.Spelt.{FileTree, classes_of}
 use Rattle.cjc_judge.specs.Spelt as spelt_files
 use Rattle.cjc_judge.specs.Trees.{AllSpelt}
 use Rattle.cjc_shape.specs.Judged.Tested.{IsOne, IsTested}
-use Rattle.cjc_shape.proofs.JudgedLaws.Selected.{is_world, judged_checks, judged_names, judged_selectable, judged_whole}
-use Rattle.cjc_shape.proofs.JudgedLaws.Selected.{same_codes, same_world, types}
+use Rattle.cjc_shape.proofs.JudgedLaws.Selected.{is_world, judged_checks, judged_int_selectable, judged_int_whole}
+use Rattle.cjc_shape.proofs.JudgedLaws.Selected.{judged_names, judged_selectable, judged_whole, same_codes, same_world}
+use Rattle.cjc_shape.proofs.JudgedLaws.Selected.{types}
 use Rattle.cjc_methods.specs.List.Listed.{ListTree}
 use Rattle.cjc_judge.proofs.Firsts.{all_spell}
 use Rattle.cjc_judge.proofs.Tables.{tables_sized}
@@ -177,6 +178,8 @@ module _ (list : ListTree) (files : List (List ℕ)) (judged : Judged) (is : IsS
           types = types list files judged is_tested code class method tree table one;
           selectable = judged_selectable list files judged is_tested code class method tree table one;
           whole = judged_whole list files judged is_tested code class method tree table one;
+          int_selectable = judged_int_selectable list files judged is_tested code class method tree table one;
+          int_whole = judged_int_whole list files judged is_tested code class method tree table one;
         };
   }
 

@@ -6,10 +6,10 @@ use Rattle.std.proofs.lemmas.List.{length-map}
 use Rattle.std.proofs.lemmas.Option.{slice_get-get_or, slice_get_within}
 use Rattle.cjc_exported.specs.Bytes.declared.fault.MemberId.{MemberId}
 use Rattle.cjc_methods.specs.JvmSemantics.Linked.{Method}
-use Rattle.cjc_methods.specs.JvmSemantics.OnePackage.{method_by}
+use Rattle.cjc_methods.specs.JvmSemantics.OnePackage.{method_at, method_by}
 use Rattle.cjc_methods.specs.Bytecode.PackageCodes.{all_codes}
 use Rattle.cjc_exported.specs.Components.Package.{LaidMethod, Package, codes, pool}
-use Rattle.cjc_exported.specs.Components.Written.{code_at, is_abstract_at}
+use Rattle.cjc_exported.specs.Components.Written.{code_at, code_by, is_abstract_at}
 use Rattle.cjc_judge.specs.declared.judged.Judged.{Judged}
 use Rattle.cjc_judge.specs.Rules.{files_spelt}
 use Rattle.cjc_judge.specs.Spelt.{FileTree}
@@ -17,8 +17,12 @@ use Rattle.cjc_judge.proofs.Firsts.{one_spelling}
 use Rattle.cjc_shape.proofs.JudgedLaws.Selected.{is_world, same_world}
 use Rattle.cjc_methods.specs.List.Listed.{ListTree}
 use Rattle.cjc_methods.specs.Ready.{AreRows, IsOwn}
+use Rattle.cjc_intervals.specs.Frames.{RangeState}
 use Rattle.cjc_methods.proofs.Again.{by_own_pool, same_pools}
-use Rattle.cjc_methods.proofs.Alike.{all_alike}
+use Rattle.cjc_methods.proofs.ByRows.{all_alike}
+use Rattle.cjc_methods.specs.LowerIntPackage.LowerIntMode.declared.modes.Mode.TheVariants as modes
+use Rattle.cjc_methods.specs.LowerIntPackage.Modes.{Tables}
+use Rattle.cjc_methods.specs.LowerIntPackage.Written.{code_by_mode, code_by_mode_at}
 use Rattle.cjc_methods.specs.Narrow.Rows.Selected.{near_fields}
 use Rattle.cjc_narrow_proof.specs.NCode.PoolOrder.{pool_order}
 use Rattle.cjc_narrow_proof.specs.NCode.declared.narrow.NMethod.{NMethod}
@@ -49,6 +53,28 @@ each_code files near rows (m ∷ ms) f =
     let s = f 0 m refl in
     ap (λ c. c ∷ map (λ (x : LaidMethod). x.code) ms) s.code
     ∙ ap (λ cs. code_at files near rows m.member ∷ cs) (each_code files near rows ms (λ k x e. f (suc k) x e))
+
+-- ---- short mode
+
+-- tables by which every method is in short mode
+abbrev pub short_tables : (rows : Method → List (Option State)) → (ranges : Method → List (Option RangeState)) → Tables
+short_tables rows ranges = record { types = rows; ranges = ranges; mode = λ m. modes.Short }
+
+-- what they select is selected by their rows
+pub short_codes : (files : Files) (near : List MemberId) (rows : Method → List (Option State))
+    (ranges : Method → List (Option RangeState)) (fs : List Found)
+    → map (code_by_mode_at files near (short_tables rows ranges)) fs ≡ map (code_at files near rows) fs
+short_codes files near rows ranges [] = refl
+short_codes files near rows ranges (f ∷ fs) =
+    ap (λ c. c ∷ map (code_by_mode_at files near (short_tables rows ranges)) fs) (by (method_at files f))
+    ∙ ap (λ cs. code_at files near rows f ∷ cs) (short_codes files near rows ranges fs)
+  where
+    by : (o : Option Method) → code_by_mode files near (short_tables rows ranges) f o ≡ code_by files near rows f o
+    by None = refl
+    by (Some m) = refl
+
+no_ranges : Method → List (Option RangeState)
+no_ranges m = []
 
 module _ (list : ListTree) (files : List (List ℕ)) (judged : Judged) (is : IsSound list files judged) where
   abbrev world : Files
@@ -104,9 +130,13 @@ module _ (list : ListTree) (files : List (List ℕ)) (judged : Judged) (is : IsS
   -- by their own pool
   pub narrow_is : narrow_codes ≡ map (code_at world (near_fields (pool_order narrow_codes)) rows) fs
   unfolding narrow_codes first_codes
-  narrow_is = by_own_pool world rows fs [] first_codes narrow_codes refl refl
+  narrow_is =
+      let t = short_tables rows no_ranges in
+      by_own_pool world t fs [] first_codes narrow_codes (sym (short_codes world [] rows no_ranges fs))
+      (sym (short_codes world (near_fields (pool_order first_codes)) rows no_ranges fs))
+      ∙ short_codes world (near_fields (pool_order narrow_codes)) rows no_ranges fs
 
-  owned : All (IsOwn world) fs
+  pub owned : All (IsOwn world) fs
   owned = all_own world (listed list files judged is)
 
   -- code that is selected by its own pool, whichever rows the types stand for
@@ -118,8 +148,10 @@ module _ (list : ListTree) (files : List (List ℕ)) (judged : Judged) (is : IsS
       e ∙ all_alike world judged.codes judged.types (are_ready list files judged is) others rows are rows_are
       (near_fields (pool_order ns)) fs owned in
       let pools : pool_order ns ≡ pool_order narrow_codes =
-      ap pool_order f ∙ same_pools world rows (near_fields (pool_order ns)) (near_fields (pool_order narrow_codes)) fs
-      ∙ ap pool_order (sym narrow_is) in
+      ap pool_order (f ∙ sym (short_codes world (near_fields (pool_order ns)) rows no_ranges fs))
+      ∙ same_pools world (short_tables rows no_ranges) (near_fields (pool_order ns))
+      (near_fields (pool_order narrow_codes)) fs
+      ∙ ap pool_order (short_codes world (near_fields (pool_order narrow_codes)) rows no_ranges fs ∙ sym narrow_is) in
       f ∙ ap (λ keys. map (code_at world (near_fields keys) rows) fs) pools ∙ sym narrow_is
 
   -- ---- a draft has this code
@@ -137,7 +169,7 @@ module _ (list : ListTree) (files : List (List ℕ)) (judged : Judged) (is : IsS
 
   -- ---- a draft
 
-  least : AreLeast world rows
+  pub least : AreLeast world rows
   least code class method tree contains is_method =
       let all = are_ready list files judged is in
       let k = contains.0 in

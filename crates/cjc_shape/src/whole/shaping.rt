@@ -1,15 +1,18 @@
 //! A package by its methods, laid out. The rules that speak of them are tested here: 417, then 801, then 311, 414 and
 //! 415.
 
-ghost use Rattle.std.specs.Prelude.{◌≡◌, [], All, IfOk, IfErr, OnOk};
-ghost use Rattle.cjc_methods.specs.Ready.{IsOwn};
+ghost use Rattle.std.specs.Prelude.{◌≡◌, ◌||◌, [], All, IfOk, IfErr, OnOk};
+ghost use Rattle.std.specs.List.{list_any};
+ghost use Rattle.cjc_methods.specs.LowerIntPackage.Modes.{is_int};
+ghost use Rattle.cjc_methods.specs.Ready.{IsListed};
 ghost use Rattle.cjc_shape.specs.Prepared.{BreaksNothing};
-ghost use Rattle.cjc_shape.specs.Whole.Working.Shaped.{IsShaped, Stopped, has_int_code, int_breaks};
+ghost use Rattle.cjc_shape.specs.Whole.Working.Shaped.{IsShaped, Stopped, has_int_code, has_int_mode, int_breaks};
 ghost use Rattle.cjc_exported.specs.Bytes.Breaks.{IsFirstRefusal};
 ghost use Rattle.cjc_exported.specs.World.Classes.{all_classes};
 ghost use Rattle.cjc_exported.specs.World.Order.{method_order};
 
 use cjc_exported::export_file::export_of;
+use cjc_judge::modes::Mode;
 use cjc_judge::{Judged, image_of, tokens_of};
 use cjc_methods::bytes::{Fault, NoMemory, Row, RulePlace, answer, broken};
 use cjc_methods::class_order::classes::class_order;
@@ -21,6 +24,7 @@ use cjc_methods::world::{Found, StaticImage, World};
 use cjc_methods::{
     method_order, methods_are_own, methods_can_be_laid_out, narrow_codes, test_words,
 };
+use cjc_narrow_proof::intervals::range_laws::least_ranges_exist;
 use std::alloc::Global;
 
 /// A package whose methods are laid out.
@@ -48,7 +52,7 @@ impl Drop for Shaped {
 /// The methods of a package in the order of Method.
 fn members_of(alloc: Global, world: &World<'_>) -> Result<Row<Found>, NoMemory>
     ensures made { IfOk result (λ members. members ≡ method_order (all_classes world.now)) }
-    ensures own { IfOk result (All (IsOwn world.now)) }
+    ensures listed { IfOk result (All (IsListed world.now)) }
 {
     let order = class_order(alloc, world, false)?;
     methods_are_own();
@@ -62,13 +66,42 @@ fn has_int_code(judged: &Judged<'_>) -> bool
     judged.list.ints && any_works_on_int(&judged.world, judged.codes.items())
 }
 
-/// Rule 801: the list allows int, and a method with code works on it, for which nothing can be written yet.
+fn is_int(mode: Mode) -> bool
+    ensures { result ≡ is_int mode }
+{
+    match mode {
+        Mode::Short => false,
+        Mode::Int => true,
+    }
+}
+
+/// Whether one of these is int mode.
+fn any_is_int(modes: &[Mode]) -> bool
+    ensures { result ≡ list_any is_int modes.now }
+{
+    for mode in modes {
+        if is_int(*mode) {
+            return true;
+        }
+    }
+    false
+}
+
+/// Whether a method is in int mode or, where the list allows int, works on it.
+fn needs_int(judged: &Judged<'_>) -> bool
+    ensures { result ≡ (has_int_mode judged.now || has_int_code judged.now) }
+{
+    any_is_int(judged.modes.items()) || has_int_code(judged)
+}
+
+/// Rule 801: a method is in int mode, or the list allows int and a method with code works on it, for which nothing can
+/// be written yet.
 fn test_ints(alloc: Global, judged: &Judged<'_>) -> Result<(), Fault>
     ensures unbroken { OnOk result (int_breaks judged.now ≡ []) }
     ensures refused { IfErr result (IsFirstRefusal (int_breaks judged.now)) }
 {
     let spot = RulePlace::of_list(judged.list.name.items());
-    answer(alloc, broken(has_int_code(judged), spot, 801))
+    answer(alloc, broken(needs_int(judged), spot, 801))
 }
 
 /// The package with its methods laid out, of one that breaks no rule of its files.
@@ -82,10 +115,18 @@ pub fn shape(alloc: Global, judged: &Judged<'_>) -> Result<Shaped, Fault>
     ensures shaped { IfOk result (IsShaped judged.now) }
     ensures refused { IfErr result (Stopped judged.now.list.now judged.now.files.now) }
 {
+    least_ranges_exist();
     methods_can_be_laid_out();
     methods_are_of_a_package();
     let members = members_of(alloc, &judged.world)?;
-    test_words(alloc, &judged.world, members.items())?;
+    test_words(
+        alloc,
+        &judged.world,
+        judged.codes.items(),
+        judged.types.items(),
+        judged.modes.items(),
+        members.items(),
+    )?;
     test_ints(alloc, judged)?;
     let tokens = tokens_of(alloc, judged.list, &judged.world)?;
     let image = image_of(alloc, &judged.world, &judged.codes)?;
@@ -94,6 +135,7 @@ pub fn shape(alloc: Global, judged: &Judged<'_>) -> Result<Shaped, Fault>
         &judged.world,
         judged.codes.items(),
         judged.types.items(),
+        judged.modes.items(),
         members.items(),
     )?;
     let export = export_of(alloc, judged.list, &judged.world, &tokens)?;

@@ -5,7 +5,7 @@ use Rattle.std.specs.Prelude.{◌==◌, not, ◌&&◌, ◌||◌, Some, slice_get
 use Rattle.std.specs.List.{join_with_byte, list_all, slice_split}
 use Rattle.std.specs.Str.{bytes_eq}
 use Rattle.std.proofs.lemmas.List.Splits.{join_with_byte-slice_split}
-use Rattle.cjc_bytes.specs.AccessFlags.{is_interface, is_private, is_static}
+use Rattle.cjc_bytes.specs.AccessFlags.{is_abstract, is_interface, is_private, is_static}
 use Rattle.cjc_bytes.specs.Breaks.{class_spot, member_spot}
 use Rattle.cjc_bytes.specs.Descriptor.{IsClassName, IsName, inside, is_name_byte, last, more, simple}
 use Rattle.cjc_bytes.specs.Order.{FilePlace}
@@ -23,7 +23,7 @@ use Rattle.cjc_token_proof.specs.Subset.Checks.{check_breaks, list_breaks}
 use Rattle.cjc_token_proof.specs.Subset.Exports.{export_breaks, export_file_of, is_class_name, is_name, is_of_objects}
 use Rattle.cjc_token_proof.specs.Subset.Exports.{is_unfit_listed, listed_breaks, listed_class_breaks}
 use Rattle.cjc_token_proof.specs.Subset.Exports.{listed_method_breaks}
-use Rattle.cjc_token_proof.specs.Subset.Members.{imports, is_initialiser}
+use Rattle.cjc_token_proof.specs.Subset.Members.{imports, is_constructor, is_initialiser}
 use Rattle.cjc_tokens.specs.Members.{is_exposed}
 use Rattle.cjc_vtable.proofs.Filed.{get-has, has-get, of-imports}
 use Rattle.cjc_world.specs.Files.{Files}
@@ -59,33 +59,49 @@ class_name bs e = some_parts (slice_split (λ b. b == 47) bs) bs (join_with_byte
 
 -- ---- flags
 
-module _ (p o i s q : Bool) (fit : ((p && o) || (i && not s) || (q && (p || s))) ≡ false) where
+module _ (p o i s q a k : Bool) (fit : ((p && o) || (i && not s) || (q && (p || s)) || (a && (s || p || k || i)))
+    ≡ false) where
   first_off : (p && o) ≡ false
-  first_off = by (p && o) (i && not s) (q && (p || s)) fit
+  first_off = by (p && o) (i && not s) (q && (p || s)) (a && (s || p || k || i)) fit
     where
-      by : (a b c : Bool) → (a || b || c) ≡ false → a ≡ false
-      by true b c e = absurd cc
-      by false b c e = refl
+      by : (a b c d : Bool) → (a || b || c || d) ≡ false → a ≡ false
+      by true b c d e = absurd cc
+      by false b c d e = refl
 
   started : i ≡ true → s ≡ true
-  started e = by (p && o) i s (q && (p || s)) e fit
+  started e = by (p && o) i s (q && (p || s)) (a && (s || p || k || i)) e fit
     where
-      by : (a i s c : Bool) → i ≡ true → (a || (i && not s) || c) ≡ false → s ≡ true
-      by a i true c e f = refl
-      by true true false c e f = absurd cc
-      by false true false c e f = absurd cc
-      by a false false c e f = absurd cc
+      by : (a i s c d : Bool) → i ≡ true → (a || (i && not s) || c || d) ≡ false → s ≡ true
+      by a i true c d e f = refl
+      by true true false c d e f = absurd cc
+      by false true false c d e f = absurd cc
+      by a false false c d e f = absurd cc
 
   bare : q ≡ true → (p ≡ false) × (s ≡ false)
-  bare e = by (p && o) (i && not s) p s q e fit
+  bare e = by (p && o) (i && not s) p s q (a && (s || p || k || i)) e fit
     where
-      by : (a b p s q : Bool) → q ≡ true → (a || b || (q && (p || s))) ≡ false → (p ≡ false) × (s ≡ false)
-      by false false false false true e f = (refl, refl)
-      by false false true s true e f = absurd cc
-      by false false false true true e f = absurd cc
-      by true b p s true e f = absurd cc
-      by false true p s true e f = absurd cc
-      by a b p s false e f = absurd cc
+      by : (a b p s q d : Bool) → q ≡ true → (a || b || (q && (p || s)) || d) ≡ false → (p ≡ false) × (s ≡ false)
+      by false false false false true d e f = (refl, refl)
+      by false false true s true d e f = absurd cc
+      by false false false true true d e f = absurd cc
+      by true b p s true d e f = absurd cc
+      by false true p s true d e f = absurd cc
+      by a b p s false d e f = absurd cc
+
+  -- what is abstract
+  seen_by_all : a ≡ true → (s ≡ false) × (p ≡ false) × (k ≡ false)
+  seen_by_all e = by (p && o) (i && not s) (q && (p || s)) a s p k i e fit
+    where
+      by : (x y z a s p k i : Bool) → a ≡ true → (x || y || z || (a && (s || p || k || i))) ≡ false
+          → (s ≡ false) × (p ≡ false) × (k ≡ false)
+      by false false false true false false false i e f = (refl, refl, refl)
+      by false false false true true p k i e f = absurd cc
+      by false false false true false true k i e f = absurd cc
+      by false false false true false false true i e f = absurd cc
+      by true y z true s p k i e f = absurd cc
+      by false true z true s p k i e f = absurd cc
+      by false false true true s p k i e f = absurd cc
+      by x y z false s p k i e f = absurd cc
 
 -- ---- rules
 
@@ -141,12 +157,15 @@ module _ (list : List ℕ) (files : Files) (codes : List MethodCode) (settings :
   pub exports_plain : ExportsArePlain files
   exports_plain = record {
     visible = λ n c e k m at_k. first_off (is_private m.flags) (is_exposed m.flags) (is_initialiser m.name)
-        (is_static m.flags) (is_of_objects c m.name) (fit_listed n c e k m at_k);
+        (is_static m.flags) (is_of_objects c m.name) (is_abstract m.flags) (is_constructor m.name) (fit_listed n c e k m at_k);
     initialisers = λ n c e k m at_k named. started (is_private m.flags) (is_exposed m.flags) (is_initialiser m.name)
-        (is_static m.flags) (is_of_objects c m.name) (fit_listed n c e k m at_k) named;
+        (is_static m.flags) (is_of_objects c m.name) (is_abstract m.flags) (is_constructor m.name) (fit_listed n c e k m at_k) named;
     interfaces = λ n c e interface k m at_k. bare (is_private m.flags) (is_exposed m.flags) (is_initialiser m.name)
-        (is_static m.flags) (is_of_objects c m.name) (fit_listed n c e k m at_k)
+        (is_static m.flags) (is_of_objects c m.name) (is_abstract m.flags) (is_constructor m.name) (fit_listed n c e k m at_k)
         (ap (λ b. b || (bytes_eq c.name object && not (is_initialiser m.name))) interface);
+    abstracts = λ n c e k m at_k shown. seen_by_all (is_private m.flags) (is_exposed m.flags) (is_initialiser m.name)
+        (is_static m.flags) (is_of_objects c m.name) (is_abstract m.flags) (is_constructor m.name)
+        (fit_listed n c e k m at_k) shown;
   }
 
   -- java/lang/Object
@@ -154,7 +173,7 @@ module _ (list : List ℕ) (files : Files) (codes : List MethodCode) (settings :
       (m : ExportMethod) → slice_get c.methods k ≡ Some m → is_initialiser m.name ≡ false
       → (is_private m.flags ≡ false) × (is_static m.flags ≡ false)
   root_bare n c e same k m at_k named = bare (is_private m.flags) (is_exposed m.flags) (is_initialiser m.name)
-      (is_static m.flags) (is_of_objects c m.name) (fit_listed n c e k m at_k)
+      (is_static m.flags) (is_of_objects c m.name) (is_abstract m.flags) (is_constructor m.name) (fit_listed n c e k m at_k)
       (either (is_interface c.flags) (bytes_eq c.name object) (is_initialiser m.name) (ap (λ x. bytes_eq x object) same
       ∙ name_is object) named)
     where

@@ -19,6 +19,7 @@ use Rattle.cjc_token_proof.specs.Clinit.Image.{IsImage}
 use Rattle.cjc_token_proof.specs.Clinit.Rules.{BreaksImage}
 use Rattle.cjc_components.specs.Bytecode.PackageCodes.{all_codes}
 use Rattle.cjc_components.specs.Package.{LaidMethod, Package, pool}
+use Rattle.cjc_components.specs.Written.{code_by}
 use Rattle.cjc_vtable.specs.Fixpoint.Tables.{HasRow}
 use Rattle.cjc_shape_proof.specs.LowerJudge.Rules.{settings_of}
 use Rattle.cjc_shape_proof.specs.LowerJudge.Spelt.{IsRead}
@@ -39,8 +40,11 @@ use Rattle.cjc_ncode.specs.ByLabel as labels
 use Rattle.cjc_ncode.specs.ByLabel.{Named}
 use Rattle.cjc_ncode.specs.Written.{narrow_method}
 use Rattle.cjc_ncode.specs.declared.narrow.NMethod.{NMethod}
-use Rattle.cjc_shape_proof.proofs.ShapeSound.{are_ready, listed, no_image_break, world_unbroken}
+use Rattle.cjc_shape_proof.proofs.ShapeSelected.{judged_checks}
+use Rattle.cjc_shape_proof.proofs.ShapeSound.{are_ready, is_tested, listed, no_image_break, world_unbroken}
+use Rattle.cjc_token_proof.specs.Subset.Checks.{check_breaks}
 use Rattle.cjc_token_proof.specs.Subset.Ints.{any_works_on_int}
+use Rattle.cjc_token_proof.specs.Tables.Sound.{IsSound as IsSoundPackage}
 use Rattle.cjc_shape_proof.specs.LowerShape.Prepared.{IsSound}
 use Rattle.cjc_shape_proof.specs.Intervals.Frames.{RangeState}
 use Rattle.cjc_shape_proof.specs.Intervals.Tables.{IsLeastRanges}
@@ -50,14 +54,14 @@ use Rattle.cjc_narrow_proof.proofs.SelectedLaws.SomeInsns.{some_insns}
 use Rattle.cjc_theorem.proofs.SoundRuns.Coded.{IsCoded}
 use Rattle.cjc_theorem.proofs.SoundRuns.Laid.{IsOfFile, bare_code, id_of, none_among, of_file, told_among}
 use Rattle.cjc_theorem.proofs.SoundRuns.Lookups.{same_look_ups}
-use Rattle.cjc_theorem.proofs.SoundRuns.Placed.{plain_in_order, stands}
+use Rattle.cjc_theorem.proofs.SoundRuns.Placed.{plain_in_order, sound_package, stands}
 use Rattle.cjc_theorem.proofs.SoundRuns.Ranges.{ranges_pass}
 use Rattle.cjc_theorem.proofs.SoundRuns.Read.{read_files, whole_is}
 use Rattle.cjc_theorem.proofs.SoundRuns.Tabled.{has_least, no_first, only_coded, tabled_code, tables, types_are}
 use Rattle.cjc_token_proof.specs.Types.declared.state.State.{State}
 use Rattle.cjc_token_proof.specs.Types.Flow.{Body}
 use Rattle.cjc_shape_proof.proofs.ShapeDrafts.{rows, rows_agree, rows_are, same_members, same_spelt}
-use Rattle.cjc_shape_proof.specs.LowerShape.Whole.Conversion.{IsDraft, IsSelected}
+use Rattle.cjc_shape_proof.specs.LowerShape.Whole.Conversion.{AreShort, IsDraft, IsSelected}
 use Rattle.cjc_world.specs.Classes.{all_classes}
 use Rattle.cjc_world.specs.Files.{Files}
 use Rattle.cjc_world.specs.Order.{method_order}
@@ -85,38 +89,44 @@ module _ (list : ListTree) (files : List (List ℕ)) (judged : Judged) (is : IsS
   fitting : (n : ℕ) (c : ClassTree) → slice_get world.classes n ≡ Some c → ClassFits c
   fitting n c e = let r = (read_files list files judged is).classes n c e in spelt_fits c r.0 r.1 r.2
 
-  least_of : (n i : ℕ) (class : ClassTree) (method : MethodTree) (tree : CodeTree) → slice_get world.classes n
-      ≡ Some class → slice_get class.methods i ≡ Some method → method.code ≡ Some tree → is_initialiser method.name
-      ≡ false
+  least_of : AreShort list.ints judged.world → (n i : ℕ) (class : ClassTree) (method : MethodTree) (tree : CodeTree)
+      → slice_get world.classes n ≡ Some class → slice_get class.methods i ≡ Some method → method.code ≡ Some tree
+      → is_initialiser method.name ≡ false
       → HasLeast judged.world judged.codes own_tables (method_by class method (Some tree))
-  least_of n i class method tree e f g plain =
+  least_of short n i class method tree e f g plain =
       has_least judged.world judged.codes judged.types ready own_rows (rows_are list files judged is) least n i class
       method tree e f g plain (read_of judged.world (read_files list files judged is) n class e) (fitting n class e)
       (λ code of. some_insns judged.world code class method tree of)
       (λ k code is_code of. ranges_pass list files judged is
-      k code is_code class method tree of)
+      k code is_code class method tree of short)
 
   found : (m : Method) (at : ℕ) (t : State) → HasRow (own_tables.types m) at t → IsCoded world.classes m
       × (is_initialiser (let id = m.id in id.name) ≡ false)
   found m at t row = only_coded judged.world judged.codes judged.types ready own_rows (rows_are list files judged is)
       least m at t row
 
-  pub are_tabled : AreTabled judged.world judged.codes own_tables
-  are_tabled = record {
-    own = λ class method tree own plain is_code. least_of own.number own.place class method tree own.is_class
+  pub are_tabled : AreShort list.ints judged.world → AreTabled judged.world judged.codes own_tables
+  are_tabled short = record {
+    own = λ class method tree own plain is_code. least_of short own.number own.place class method tree own.is_class
         own.is_method is_code plain;
     only = λ m at t row.
         let c = (found m at t row).0 in
         let plain : is_initialiser (let k = c.method in k.name) ≡ false =
         sym (ap (λ (x : Method). is_initialiser (let id = x.id in id.name)) c.is) ∙ (found m at t row).1 in
-        subst (HasLeast judged.world judged.codes own_tables) (sym c.is) (least_of c.number c.place c.class c.method
-        c.tree c.is_class c.is_method c.is_code plain);
+        subst (HasLeast judged.world judged.codes own_tables) (sym c.is) (least_of short c.number c.place c.class
+        c.method c.tree c.is_class c.is_method c.is_code plain);
   }
 
   module _ (of : IsRead list) (sound : ExportsAreSound judged.world) where
-    pub whole : any_works_on_int judged.world judged.codes ≡ false
+    pub whole : any_works_on_int judged.world judged.codes ≡ false → AreShort list.ints judged.world
         → IsWhole list.name judged.world judged.codes (settings_of list) own_tables
-    whole free = whole_is list files judged is of sound own_tables are_tabled free
+    whole free short = whole_is list files judged is of sound own_tables (are_tabled short) free
+
+    kept_files : IsSoundPackage list.name judged.world
+    kept_files = sound_package list files judged is of sound.names
+
+    checks : check_breaks list.name judged.world judged.codes (settings_of list) ≡ []
+    checks = judged_checks list files judged (is_tested list files judged is)
 
     -- ---- what stands for its methods in Method is the narrow code by its tables
 
@@ -127,8 +137,13 @@ module _ (list : ListTree) (files : List (List ℕ)) (judged : Judged) (is : IsS
       same : p.files ≡ judged.world
       same = same_spelt list files judged is p.files draft.rows draft.spelt
 
-      each : (k : ℕ) (m : LaidMethod) → slice_get p.methods k ≡ Some m → IsSelected judged.world near draft.rows m
-      each k m e = subst (λ w. IsSelected w near draft.rows m) same (draft.methods k m e)
+      selected : (k : ℕ) (m : LaidMethod) → slice_get p.methods k ≡ Some m → IsSelected judged.world near draft.rows m
+      selected k m e = subst (λ w. IsSelected w near draft.rows m) same (draft.methods k m e)
+
+      each : (k : ℕ) (m : LaidMethod) → slice_get p.methods k ≡ Some m → (y : Method)
+          → method_at judged.world m.member ≡ Some y → m.code ≡ code_of judged.world near draft.rows y
+      each k m e y found = (let one = selected k m e in one.code) ∙ ap (code_by judged.world near draft.rows m.member)
+          found
 
       by_rows : (x : Method) (rows : List (Option State)) → own_tables.types x ≡ rows
           → narrow_codes judged.world near own_tables x ≡ code_of judged.world near (λ y. rows) x
@@ -161,7 +176,8 @@ module _ (list : ListTree) (files : List (List ℕ)) (judged : Judged) (is : IsS
           → (k : ℕ) × (m : LaidMethod) × (slice_get p.methods k ≡ Some m)
           × (method_at judged.world m.member ≡ Some (method_by class method (Some tree)))
       stands_there n i class method tree e f g plain =
-          let (k, f, there, found) = stands list files judged is of sound.names n i class method tree e f g plain in
+          let (k, f, there, found) = stands list.name judged.world judged.codes (settings_of list) kept_files checks n i
+          class method tree e f g plain in
           let one = mapped_at (λ (m : LaidMethod). m.member) p.methods k f (ap (λ fs. slice_get fs k)
           (same_members list files judged is p draft) ∙ there) in
           (k, one.0, one.1, ap (method_at judged.world) (sym one.2) ∙ found)
@@ -176,7 +192,7 @@ module _ (list : ListTree) (files : List (List ℕ)) (judged : Judged) (is : IsS
           → laid_from judged.world near p.methods x ≡ code_of judged.world near draft.rows x
       by_draft x plain o =
           by (let m = o.method in m.code) refl (told_among judged.world list.name (listed list files judged is)
-          (world_unbroken list files judged is) near draft.rows x o p.methods each)
+          (world_unbroken list files judged is) near (code_of judged.world near draft.rows) x o p.methods each)
         where
           by : (c : Option CodeTree) → (let m = o.method in m.code) ≡ c
               → (laid_from judged.world near p.methods x ≡ code_of judged.world near draft.rows x)
@@ -223,7 +239,7 @@ module _ (list : ListTree) (files : List (List ℕ)) (judged : Judged) (is : IsS
           least x g)
           ∙ bare_code judged.world near x
           ∙ sym (none_among judged.world list.name (listed list files judged is) (world_unbroken list files judged is)
-          near draft.rows x o p.methods none)
+          near (code_of judged.world near draft.rows) x o p.methods none)
         where
           none : (k : ℕ) (m : LaidMethod) (y : Method) → slice_get p.methods k ≡ Some m
               → method_at judged.world m.member ≡ Some y → y.id ≡ x.id → ⊥
@@ -232,7 +248,8 @@ module _ (list : ListTree) (files : List (List ℕ)) (judged : Judged) (is : IsS
               ap (λ fs. slice_get fs k) (sym (same_members list files judged is p draft))
               ∙ slice_get-map (λ (q : LaidMethod). q.member) p.methods k
               ∙ ap (option_map (λ (q : LaidMethod). q.member)) e in
-              let plain = plain_in_order list files judged is of sound.names k m.member y there f in
+              let plain = plain_in_order list.name judged.world judged.codes (settings_of list) kept_files checks k
+              m.member y there f in
               let no : true ≡ false = sym g ∙ sym (ap (λ (id : MemberId). is_initialiser id.name) same_id) ∙ plain in
               absurd cc
 

@@ -16,7 +16,6 @@ use Rattle.cjc_world.specs.ClassFile.declared.tree.ClassTree.{ClassTree}
 use Rattle.cjc_world.specs.ClassFile.declared.tree.MethodTree.{MethodTree}
 use Rattle.cjc_components.specs.Bytecode.declared.insn.JInsn.{JInsn}
 use Rattle.cjc_components.specs.Package.{LaidMethod}
-use Rattle.cjc_components.specs.Written.{code_by}
 use Rattle.cjc_token_proof.specs.Narrow.Keys.Working.Same.{same_member-Decides}
 use Rattle.cjc_token_proof.specs.Narrow.Rows.Package.{code_of, flags_of, read_of, tree_of}
 use Rattle.cjc_token_proof.specs.Narrow.Pairs.Roles.{with_pairs}
@@ -26,7 +25,6 @@ use Rattle.cjc_ncode.specs.PoolOrder.{same_member}
 use Rattle.cjc_ncode.specs.Written.{Resolution, narrow_method}
 use Rattle.cjc_ncode.specs.declared.narrow.NMethod.{NMethod}
 use Rattle.cjc_token_proof.specs.Types.declared.state.State.{State}
-use Rattle.cjc_shape_proof.specs.LowerShape.Whole.Conversion.{IsSelected}
 use Rattle.cjc_world.specs.Classes.{Class, all_classes, class_named, declared, method_of_class}
 use Rattle.cjc_world.specs.Files.{Files}
 use Rattle.cjc_world.specs.Lookup.{is_called}
@@ -126,10 +124,14 @@ module _ (files : Files) (list : List ℕ) (listed : length files.classes ≤ cl
 
   -- ---- among the methods of Method
 
-  module _ (near : List MemberId) (rows : Method → List (Option State)) (x : Method) (file : IsOfFile files x) where
-    -- It is what the rows say, or nothing there is of this method.
+  module _ (near : List MemberId) (code : Method → NMethod) (x : Method) (file : IsOfFile files x) where
+    -- A method of Method has the code that is said of it.
+    abbrev pub IsSaid : LaidMethod → Type 0
+    IsSaid m = (y : Method) → method_at files m.member ≡ Some y → m.code ≡ code y
+
+    -- It is what is said of this method, or nothing there is of it.
     abbrev IsTold : List LaidMethod → Type 0
-    IsTold ms = (laid_from files near ms x ≡ code_of files near rows x)
+    IsTold ms = (laid_from files near ms x ≡ code x)
         ⊎ ((laid_from files near ms x ≡ code_of files near no_rows x) × ((k : ℕ) (m : LaidMethod)
         → slice_get ms k ≡ Some m → method_at files m.member ≡ Some x → ⊥))
 
@@ -137,7 +139,7 @@ module _ (files : Files) (list : List ℕ) (listed : length files.classes ≤ cl
     Choice m ms b = if b then m.code else laid_from files near ms x
 
     abbrev Told : LaidMethod → List LaidMethod → Bool → Type 0
-    Told m ms b = (Choice m ms b ≡ code_of files near rows x) ⊎ ((Choice m ms b ≡ code_of files near no_rows x)
+    Told m ms b = (Choice m ms b ≡ code x) ⊎ ((Choice m ms b ≡ code_of files near no_rows x)
         × ((k : ℕ) (n : LaidMethod) → slice_get (m ∷ ms) k ≡ Some n → method_at files n.member ≡ Some x → ⊥))
 
     -- no other method is this one
@@ -150,23 +152,23 @@ module _ (files : Files) (list : List ℕ) (listed : length files.classes ≤ cl
         here zero n f g = let same : m ≡ n = cc in differs (ap (λ (v : LaidMethod). method_at files v.member) same ∙ g)
         here (suc k) n f g = told.1 k n f g
 
-    named : (m : LaidMethod) (ms : List LaidMethod) → IsSelected files near rows m → (y : Method)
+    named : (m : LaidMethod) (ms : List LaidMethod) → IsSaid m → (y : Method)
         → method_at files m.member ≡ Some y → (b : Bool) → same_member y.id x.id ≡ b → IsTold ms → Told m ms b
     named m ms one y e true f rest =
         let same : y ≡ x = one_of_name y x (of_file files m.member y e) file ((same_member-Decides y.id x.id).0 f) in
-        inl (one.code ∙ ap (code_by files near rows m.member) e ∙ ap (code_of files near rows) same)
+        inl (one y e ∙ ap code same)
     named m ms one y e false f rest = later m ms (λ g. no (same_some (sym e ∙ g))) rest
       where
         no : y ≡ x → ⊥
         no g = let yes = sym f ∙ (same_member-Decides y.id x.id).1 (ap (λ (v : Method). v.id) g) in absurd cc
 
-    chosen : (m : LaidMethod) (ms : List LaidMethod) → IsSelected files near rows m → (o : Option Method)
+    chosen : (m : LaidMethod) (ms : List LaidMethod) → IsSaid m → (o : Option Method)
         → method_at files m.member ≡ o → IsTold ms → Told m ms (is_method_of x.id o)
     chosen m ms one None e rest = later m ms (λ g. (let no = sym e ∙ g in absurd cc)) rest
     chosen m ms one (Some y) e rest = named m ms one y e (same_member y.id x.id) refl rest
 
-    pub told_among : (ms : List LaidMethod) → ((k : ℕ) (m : LaidMethod) → slice_get ms k ≡ Some m
-        → IsSelected files near rows m) → IsTold ms
+    pub told_among : (ms : List LaidMethod) → ((k : ℕ) (m : LaidMethod) → slice_get ms k ≡ Some m → IsSaid m)
+        → IsTold ms
     told_among [] each = inr (refl, λ k m e f. none k m e)
       where
         none : (k : ℕ) (m : LaidMethod) → slice_get [] k ≡ Some m → ⊥

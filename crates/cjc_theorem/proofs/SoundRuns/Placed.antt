@@ -9,6 +9,7 @@ use Rattle.cjc_jvm_semantics.specs.Linked.{Method}
 use Rattle.cjc_jvm_semantics.specs.OnePackage.{is_constructor, is_initialiser, method_at, method_by, method_in}
 use Rattle.cjc_bytes.specs.AccessFlags.{is_abstract, is_interface, is_static}
 use Rattle.cjc_bytes.specs.Descriptor.{IsClassName, IsName, inside, last, more, simple}
+use Rattle.cjc_bytes.specs.declared.settings.Settings.{Settings}
 use Rattle.cjc_bytes.proofs.Bools.{or_right}
 use Rattle.cjc_bytes.proofs.Numbers.{first_byte}
 use Rattle.cjc_token_proof.proofs.WorldProofOwn.{mapped_at, method_is}
@@ -16,16 +17,16 @@ use Rattle.cjc_world.specs.ClassFile.Code.{CodeTree}
 use Rattle.cjc_world.specs.ClassFile.declared.tree.ClassTree.{ClassTree}
 use Rattle.cjc_world.specs.ClassFile.declared.tree.MethodTree.{MethodTree}
 use Rattle.cjc_world.specs.ExportFile.declared.tree.ExportClass.{ExportClass}
-use Rattle.cjc_shape_proof.specs.LowerJudge.Rules.{settings_of}
+use Rattle.cjc_components.specs.Bytecode.declared.method_code.MethodCode.{MethodCode}
 use Rattle.cjc_shape_proof.specs.LowerJudge.Spelt.{IsRead, exports_of}
 use Rattle.cjc_shape_proof.specs.LowerJudge.declared.judged.Judged.{Judged}
 use Rattle.cjc_token_proof.specs.List.Listed.{ListTree}
 use Rattle.cjc_narrow_proof.proofs.LawsLaws.Own.{class_by_name}
-use Rattle.cjc_shape_proof.proofs.ShapeSelected.{judged_checks}
-use Rattle.cjc_shape_proof.proofs.ShapeSound.{is_tested, listed, world_unbroken}
+use Rattle.cjc_shape_proof.proofs.ShapeSound.{listed, world_unbroken}
 use Rattle.cjc_shape_proof.specs.LowerShape.Prepared.{IsSound}
 use Rattle.cjc_token_proof.proofs.WorldProofRules.{method_kept}
 use Rattle.cjc_theorem.proofs.SoundRuns.Read.{package_is, read_files}
+use Rattle.cjc_token_proof.specs.Subset.Checks.{check_breaks}
 use Rattle.cjc_token_proof.specs.Subset.Flags.{is_unfit_method_kind}
 use Rattle.cjc_token_proof.specs.Subset.Members.{imports}
 use Rattle.cjc_token_proof.proofs.TablesLaws.Clean.{has_named}
@@ -199,6 +200,56 @@ no_bare true true false e f g = absurd cc
 no_bare true false first e f g = absurd cc
 no_bare true true true e f g = absurd cc
 
+-- one that breaks no rule of its files
+module _ (list : List ℕ) (world : Files) (codes : List MethodCode) (settings : Settings)
+    (sound : IsSoundPackage list world) (checks : check_breaks list world codes settings ≡ []) where
+  -- 304
+  no_interface : (n i : ℕ) (class : ClassTree) (method : MethodTree) (tree : CodeTree) → slice_get world.classes n
+      ≡ Some class → slice_get class.methods i ≡ Some method → method.code ≡ Some tree → is_initialiser method.name
+      ≡ false → is_interface class.flags ≡ false
+  no_interface n i class method tree e f g plain =
+      let kept = (method_kept list world codes settings checks n class e i method f).2 in
+      let code : is_some method.code ≡ true = ap is_some g in
+      let last : (is_interface class.flags && is_some method.code && not (is_initialiser method.name)) ≡ false =
+      or_right ((is_unfit_method_kind method.flags || (is_abstract method.flags && (is_constructor method.name
+      || is_initialiser method.name))) || (is_initialiser method.name && not (is_static method.flags)))
+      (is_interface class.flags && is_some method.code && not (is_initialiser method.name)) kept in
+      no_bare (is_interface class.flags) (is_some method.code) (is_initialiser method.name) last code plain
+
+  pub stands : (n i : ℕ) (class : ClassTree) (method : MethodTree) (tree : CodeTree) → slice_get world.classes n
+      ≡ Some class → slice_get class.methods i ≡ Some method → method.code ≡ Some tree → is_initialiser method.name
+      ≡ false
+      → (k : ℕ) × (f : Found) × (slice_get (method_order (all_classes world)) k ≡ Some f)
+      × (method_at world f ≡ Some (method_by class method (Some tree)))
+  unfolding method_order
+  stands n i class method tree e f g plain =
+      let w = all_classes world in
+      let c = declared n class in
+      let there : Has c w = has_named w class.name c (class_by_name world list sound.classes sound.unbroken
+      n class e) in
+      let ordered : Has c (in_order w false) = kind-has list world sound false c there refl
+      (ap not (no_interface n i class method tree e f g plain)) in
+      let member : slice_get c.methods i ≡ Some (method_of_class method) = slice_get-map method_of_class class.methods i
+      ∙ ap (option_map method_of_class) f in
+      let one = member_at c (length c.fields + i) in
+      let own : Has one (methods_of_class w c) = has-front one (written c (length c.fields) c.methods)
+      (places c (length c.fields + length c.methods) (length (added w c))) (in_written w c (length c.fields) i
+      c.methods (method_of_class method) member plain) in
+      let at = has-get one (methods_in_turn w (in_order w false)) (in_turn w c one (in_order w false) ordered own) in
+      (at.0, one, at.1, method_is world n class i method e f ∙ ap (λ o. Some (method_by class method o)) g)
+
+  -- what stands in Method is no initialiser
+  pub plain_in_order : (k : ℕ) (f : Found) (x : Method) → slice_get (method_order (all_classes world)) k ≡ Some f
+      → method_at world f ≡ Some x → is_initialiser (let id = x.id in id.name) ≡ false
+  unfolding method_order
+  plain_in_order k f x there found =
+      let w = all_classes world in
+      let r = in_order_of w f (in_order w false) (get-has f (methods_in_turn w (in_order w false)) k there) in
+      let own = kind-in list world sound false r.0 r.1 in
+      let filed = own_filed world sound.classes sound.exports r.0 own.0 own.1 in
+      plain_of world filed.0 filed.1 filed.2 f x (subst (λ c. IsOrdered w c f) filed.3 r.2) found
+
+-- one that was judged
 module _ (list : ListTree) (files : List (List ℕ)) (judged : Judged) (is : IsSound list files judged) (of : IsRead list)
     (names : (n : ℕ) (c : ExportClass) → slice_get (imports judged.world.exports) n ≡ Some c → IsClassName c.name) where
   abbrev world : Files
@@ -223,50 +274,3 @@ module _ (list : ListTree) (files : List (List ℕ)) (judged : Judged) (is : IsS
         names = λ k c e. no_array c.name (names k c e);
         unbroken = world_unbroken list files judged is;
       }
-
-  -- 304
-  no_interface : (n i : ℕ) (class : ClassTree) (method : MethodTree) (tree : CodeTree) → slice_get world.classes n
-      ≡ Some class → slice_get class.methods i ≡ Some method → method.code ≡ Some tree → is_initialiser method.name
-      ≡ false → is_interface class.flags ≡ false
-  no_interface n i class method tree e f g plain =
-      let checks = judged_checks list files judged (is_tested list files judged is) in
-      let kept = (method_kept list.name judged.world judged.codes (settings_of list) checks n class e i method f).2 in
-      let code : is_some method.code ≡ true = ap is_some g in
-      let last : (is_interface class.flags && is_some method.code && not (is_initialiser method.name)) ≡ false =
-      or_right ((is_unfit_method_kind method.flags || (is_abstract method.flags && (is_constructor method.name
-      || is_initialiser method.name))) || (is_initialiser method.name && not (is_static method.flags)))
-      (is_interface class.flags && is_some method.code && not (is_initialiser method.name)) kept in
-      no_bare (is_interface class.flags) (is_some method.code) (is_initialiser method.name) last code plain
-
-  pub stands : (n i : ℕ) (class : ClassTree) (method : MethodTree) (tree : CodeTree) → slice_get world.classes n
-      ≡ Some class → slice_get class.methods i ≡ Some method → method.code ≡ Some tree → is_initialiser method.name
-      ≡ false
-      → (k : ℕ) × (f : Found) × (slice_get (method_order (all_classes judged.world)) k ≡ Some f)
-      × (method_at judged.world f ≡ Some (method_by class method (Some tree)))
-  unfolding method_order
-  stands n i class method tree e f g plain =
-      let w = all_classes judged.world in
-      let c = declared n class in
-      let there : Has c w = has_named w class.name c (class_by_name judged.world list.name (listed list files judged is)
-      (world_unbroken list files judged is) n class e) in
-      let ordered : Has c (in_order w false) = kind-has list.name judged.world sound_package false c there refl
-      (ap not (no_interface n i class method tree e f g plain)) in
-      let member : slice_get c.methods i ≡ Some (method_of_class method) = slice_get-map method_of_class class.methods i
-      ∙ ap (option_map method_of_class) f in
-      let one = member_at c (length c.fields + i) in
-      let own : Has one (methods_of_class w c) = has-front one (written c (length c.fields) c.methods)
-      (places c (length c.fields + length c.methods) (length (added w c))) (in_written w c (length c.fields) i
-      c.methods (method_of_class method) member plain) in
-      let at = has-get one (methods_in_turn w (in_order w false)) (in_turn w c one (in_order w false) ordered own) in
-      (at.0, one, at.1, method_is judged.world n class i method e f ∙ ap (λ o. Some (method_by class method o)) g)
-
-  -- what stands in Method is no initialiser
-  pub plain_in_order : (k : ℕ) (f : Found) (x : Method) → slice_get (method_order (all_classes judged.world)) k ≡ Some f
-      → method_at judged.world f ≡ Some x → is_initialiser (let id = x.id in id.name) ≡ false
-  unfolding method_order
-  plain_in_order k f x there found =
-      let w = all_classes judged.world in
-      let r = in_order_of w f (in_order w false) (get-has f (methods_in_turn w (in_order w false)) k there) in
-      let own = kind-in list.name judged.world sound_package false r.0 r.1 in
-      let filed = own_filed judged.world sound_package.classes sound_package.exports r.0 own.0 own.1 in
-      plain_of judged.world filed.0 filed.1 filed.2 f x (subst (λ c. IsOrdered w c f) filed.3 r.2) found

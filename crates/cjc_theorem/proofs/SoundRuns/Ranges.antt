@@ -1,4 +1,5 @@
--- The numbers of a package that was tested for 601 to 609 and breaks none of them lie where their rules say.
+-- The numbers of a package that was tested for 601 to 609 and breaks none of them lie where their rules say, where none
+-- of its methods is in int mode.
 use Rattle.std.proofs.Common.{◌≡◌, ℕ, refl, subst, List, inr}
 use Rattle.std.specs.Prelude.{Option, Some, None, slice_get}
 use Rattle.cjc_bytes.specs.Breaks.{Break}
@@ -12,15 +13,19 @@ use Rattle.cjc_shape_proof.specs.LowerJudge.declared.groups.Group.TheVariants as
 use Rattle.cjc_shape_proof.specs.LowerJudge.declared.judged.Judged.{Judged}
 use Rattle.cjc_shape_proof.specs.LowerJudge.Rules.{BreaksAnyRange, files_spelt, method_break, of_group}
 use Rattle.cjc_shape_proof.specs.LowerJudge.Spelt.{FileTree, classes_of}
+use Rattle.cjc_shape_proof.proofs.ShapeModes.{in_short_mode}
 use Rattle.cjc_shape_proof.proofs.ShapeSelected.{is_world, same_codes, same_world}
 use Rattle.cjc_token_proof.specs.List.Listed.{ListTree}
 use Rattle.cjc_token_proof.specs.Narrow.Rows.Resolved.{constant_named}
-use Rattle.cjc_shape_proof.specs.Flow.Tests.Answers.{IsFirstBroken}
+use Rattle.cjc_shape_proof.specs.Flow.Tests.Breaches.{IsFirstBroken}
+use Rattle.cjc_shape_proof.specs.LowerIntPackage.LowerIntMode.Modes.{binds}
+use Rattle.cjc_shape_proof.specs.LowerIntPackage.LowerIntMode.declared.modes.Mode.TheVariants as modes
 use Rattle.cjc_shape_proof.specs.Flow.Tests.Working.Search.{first_from}
 use Rattle.cjc_shape_proof.specs.Flow.declared.tests.passing.Tested.TheVariants as tests
 use Rattle.cjc_shape_proof.proofs.FlowFirst.{all_pass, first_broken, first_of_all, nothing_broken}
 use Rattle.cjc_shape_proof.specs.LowerShape.Judged.Tested.{IsTested}
 use Rattle.cjc_shape_proof.specs.LowerShape.Prepared.{IsSound, tested}
+use Rattle.cjc_shape_proof.specs.LowerShape.Whole.Conversion.{AreShort}
 use Rattle.cjc_shape_proof.specs.Intervals.Frames.{RangeState}
 use Rattle.cjc_shape_proof.specs.Intervals.Tables.{IsLeastRanges, Passes}
 use Rattle.cjc_token_proof.specs.Types.declared.state.State.{State}
@@ -43,11 +48,11 @@ module _ (list : ListTree) (files : List (List ℕ)) (judged : Judged) (is : IsS
   }
 
   -- 601 to 609
-  no_range_break : (b : Break) → BreaksAnyRange judged.world judged.codes b → ⊥
+  no_range_break : (b : Break) → BreaksAnyRange list.ints judged.world judged.codes b → ⊥
   no_range_break b broken =
-      let there : BreaksAnyRange (files_spelt list trees) (all_codes (classes_of trees)) b =
-      subst (λ cs. BreaksAnyRange (files_spelt list trees) cs b) (same_codes list files judged is_tested)
-      (subst (λ v. BreaksAnyRange v judged.codes b) (same_world list files judged is_tested) broken) in
+      let there : BreaksAnyRange list.ints (files_spelt list trees) (all_codes (classes_of trees)) b =
+      subst (λ cs. BreaksAnyRange list.ints (files_spelt list trees) cs b) (same_codes list files judged is_tested)
+      (subst (λ v. BreaksAnyRange list.ints v judged.codes b) (same_world list files judged is_tested) broken) in
       is.judged_by.unbroken b (of_group (
         4,
         groups.Ranges,
@@ -60,7 +65,8 @@ module _ (list : ListTree) (files : List (List ℕ)) (judged : Judged) (is : IsS
       ))
 
   module _ (k : ℕ) (code : MethodCode) (is_code : slice_get judged.codes k ≡ Some code) (class : ClassTree)
-      (method : MethodTree) (tree : CodeTree) (of : IsMethodOf judged.world code class method tree) where
+      (method : MethodTree) (tree : CodeTree) (of : IsMethodOf judged.world code class method tree)
+      (short : AreShort list.ints judged.world) where
     abbrev body : Body
     body = body_of class method tree code.insns
 
@@ -79,7 +85,15 @@ module _ (list : ListTree) (files : List (List ℕ)) (judged : Judged) (is : IsS
             let first = first_of_all body types ranges f.place f.rule (first_broken tests.All body types ranges f e) in
             let broken : BrokenAt = record { rule = f.rule; offset = (let b = first.breach in let i = b.insn in i.at) }
             in
-            let found : IsFirstBroken body types ranges broken = record { place = f.place; first = first; is = refl } in
+            let found : IsFirstBroken (binds modes.Short) body types ranges broken = record {
+              place = f.place;
+              first = record {
+                is_wanted = refl;
+                breach = first.breach;
+                first = λ place rule wanted breach. first.first place rule breach;
+              };
+              is = refl;
+            } in
             absurd (no_range_break (method_break judged.world code class method broken) (
               k,
               code,
@@ -96,6 +110,9 @@ module _ (list : ListTree) (files : List (List ℕ)) (judged : Judged) (is : IsS
                   unbroken = is_table.unbroken;
                   ranges = ranges;
                   least = least;
+                  mode = modes.Short;
+                  is_mode = in_short_mode list files judged is short k code is_code class method tree of types
+                      is_table.stands.least ranges least;
                   first = found;
                 };
                 is = refl;

@@ -18,8 +18,9 @@ use Rattle.cjc_token_proof.specs.Clinit.Image.{IsImage, of_classes}
 use Rattle.cjc_components.specs.Bytecode.declared.method_code.MethodCode.{MethodCode}
 use Rattle.cjc_token_proof.specs.Narrow.Rows.Package.{element_of_kind, first_array, first_cell, named}
 use Rattle.cjc_narrow_proof.specs.Runs.Converted.{IsFirst, IsFirstArray}
-use Rattle.cjc_narrow_proof.specs.Runs.Tables.{Tables, look_ups}
+use Rattle.cjc_jvm_semantics.specs.Linked.{Method}
 use Rattle.cjc_ncode.specs.ByLabel.{Named}
+use Rattle.cjc_ncode.specs.declared.narrow.NMethod.{NMethod}
 use Rattle.cjc_token_proof.specs.Script.declared.value.Value.{Value}
 use Rattle.cjc_token_proof.specs.Script.declared.value.Value.TheVariants.{Num, Obj}
 use Rattle.cjc_token_proof.specs.Script.Sorts.{OfNumbers, Reference, field_sort, shape_name}
@@ -104,9 +105,9 @@ module _ (files : Files) (codes : List MethodCode) (image : StaticImage) (is : I
     ≡ Some f → has_values (field_sort f.desc) ≡ true)
     (values : (n k : ℕ) (c : ClassTree) (f : FieldTree) → slice_get files.classes n ≡ Some c → slice_get c.fields k
     ≡ Some f → has_unfit_value f ≡ false)
-    (near : List MemberId) (tables : Tables) where
+    (code : Method → NMethod) where
   abbrev l : Named
-  l = look_ups files image near tables
+  l = named files image code
 
   abbrev heap : Heap
   heap = map first_array image.arrays

@@ -16,7 +16,7 @@ use Rattle.cjc_token_proof.specs.Clinit.Rules.{BreaksImage, of_class}
 use Rattle.cjc_components.specs.Bytecode.declared.method_code.MethodCode.{MethodCode}
 use Rattle.cjc_shape_proof.specs.Whole.{IsWhole}
 use Rattle.cjc_narrow_proof.specs.Runs.Converted.{IsConverted, IsFirst}
-use Rattle.cjc_narrow_proof.specs.Runs.Tables.{Tables, look_ups}
+use Rattle.cjc_narrow_proof.specs.Runs.Tables.{Tables, look_ups, narrow_codes}
 use Rattle.cjc_token_proof.specs.Subset.Places.{at_class}
 use Rattle.cjc_theorem.proofs.WholeRuns.Memory.{first_is}
 use Rattle.cjc_theorem.proofs.WholeRuns.Named.{converted}
@@ -40,11 +40,9 @@ none_has P (y ∷ ys) h k x e = by (P y) refl h k e (none_has P ys)
     by false f h zero e rest = let same : y ≡ x = cc in ap P (sym same) ∙ f
     by false f h (suc k) e rest = rest h k x e
 
-module _ (list : List ℕ) (files : Files) (codes : List MethodCode) (settings : Settings) (tables : Tables)
-    (whole : IsWhole list files codes settings tables) (image : StaticImage) (is : IsImage files codes image)
-    (fine : (b : Break) → BreaksImage files codes b → ⊥) (near : List MemberId) where
-  -- 308
-  values_fit : (n k : ℕ) (c : ClassTree) (f : FieldTree) → slice_get files.classes n ≡ Some c → slice_get c.fields k
+-- 308
+module _ (files : Files) (codes : List MethodCode) (fine : (b : Break) → BreaksImage files codes b → ⊥) where
+  pub values_fit : (n k : ℕ) (c : ClassTree) (f : FieldTree) → slice_get files.classes n ≡ Some c → slice_get c.fields k
       ≡ Some f → has_unfit_value f ≡ false
   values_fit n k c f e g =
       let b : Break = broken_at (at_class (file_of files.lines n) c) 308 in
@@ -52,11 +50,14 @@ module _ (list : List ℕ) (files : Files) (codes : List MethodCode) (settings :
       (list_any has_unfit_value c.fields)
       (λ wrong. fine b (of_class n c e (record { is_wrong = wrong; is = refl })))) k f g
 
+module _ (list : List ℕ) (files : Files) (codes : List MethodCode) (settings : Settings) (tables : Tables)
+    (whole : IsWhole list files codes settings tables) (image : StaticImage) (is : IsImage files codes image)
+    (fine : (b : Break) → BreaksImage files codes b → ⊥) (near : List MemberId) where
   pub image_is : IsFirst (look_ups files image near tables) files image
   image_is = first_is files codes image is
       (λ n k c f e g. own_field_values list files codes settings (let u = whole.unbroken in u.checks) whole.read n k c f
       e g)
-      values_fit near tables
+      (values_fit files codes fine) (narrow_codes files near tables)
 
   pub whole_is : IsConverted files image near tables
   whole_is = converted list files codes settings tables whole image near image_is

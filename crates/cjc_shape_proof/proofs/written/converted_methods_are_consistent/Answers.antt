@@ -32,6 +32,7 @@ returns-clause-made = made
 
 pub returns-clause-small : goal.returns-clause-small
 returns-clause-small c = λ list files judged p is. is_small list files judged p is c.methods_can_be_laid_out.ensures
+    c.least_ranges_exist.ensures
 
 pub returns-clause-classes : goal.returns-clause-classes
 returns-clause-classes c = λ list files judged p is. c.classes_keep_rules.ensures.order list.name p

@@ -19,7 +19,7 @@ returns c = λ list files judged p is there k m e.
     let named = ((c.converted_methods_are_emittable.ensures list files judged is.sound p is.is_package is.forms pool
     made).each k m e).named in
     let w = written_at list files judged p is k m e in
-    let whole = whole_at list files judged p is c.methods_can_be_laid_out.ensures k m e in
+    let whole = whole_at list files judged p is c.methods_can_be_laid_out.ensures c.least_ranges_exist.ensures k m e in
     let can = (c.pooled_methods_are_emittable.ensures.emittable list files judged (is_tested list files judged is.sound)
     (has_applets p) (codes p) pool (pooled list files judged is.sound p is.is_package is.forms pool made)
     (naming p) (record { index = λ key i f. named.index key i f; token = λ id t f. named.token id t f }) k m.code

@@ -6,4 +6,4 @@ pub returns : goal.returns
 returns c = λ list files judged p is there. c.checked_packages_are_runnable.ensures list judged.codes p
     (is_checked list files judged p is) (own_image list files judged p is) (own_methods list files judged p is)
     (c.converted_methods_are_ready.ensures list files judged p is there)
-    (is_small list files judged p is c.methods_can_be_laid_out.ensures) (ordered_at list files judged p is)
+    (is_small list files judged p is c.methods_can_be_laid_out.ensures c.least_ranges_exist.ensures) (ordered_at list files judged p is)

@@ -2,19 +2,37 @@ use Rattle.std.proofs.Common.{sym, ap, subst, ◌∙◌, List, length}
 use Rattle.std.specs.Prelude.{All, map}
 use Rattle.std.proofs.lemmas.List.{length-map}
 use Rattle.std.proofs.lemmas.Result.{err_from_is_err_and}
-use Rattle.cjc_exported.specs.Components.Written.{code_at}
 use Rattle.cjc_narrow_proof.specs.ExportFile.Written.{constants}
 use Rattle.cjc_methods.specs.Layout.Layouts.{IsWhole}
+use Rattle.cjc_methods.specs.LowerIntPackage.Written.{code_by_mode_at}
 use Rattle.cjc_methods.specs.Narrow.Rows.Selected.{near_fields}
 use Rattle.cjc_narrow_proof.specs.NCode.PoolOrder.{pool_order}
 use Rattle.cjc_narrow_proof.specs.NCode.declared.narrow.NMethod.{NMethod}
+use Rattle.cjc_shape.proofs.PreparedLaws.Parts.{listed_own}
 use Rattle.cjc_shape.proofs.PreparedLaws.Sound.{are_ready, few_cells, few_exported, has_tokens, no_image_break}
-use Rattle.cjc_shape.proofs.WholeLaws.Drafts.{draft, is_draft, rows, rows_are}
-use Rattle.cjc_shape.proofs.WholeLaws.Ints.{draft_ints, draft_refused, free_here}
+use Rattle.cjc_shape.proofs.WholeLaws.Drafts.{draft, is_draft, rows, short_codes, short_tables}
+use Rattle.cjc_shape.proofs.WholeLaws.Ints.{are_free, draft_free, draft_ints, draft_refused, no_int_mode}
+use Rattle.cjc_shape.proofs.WholeLaws.Modes.{all_short, modes_count, own_has, own_ranges, own_tables, short_told}
+use Rattle.cjc_shape.proofs.WholeLaws.Modes.{tables_told, tells_here}
 use Rattle.cjc_shape.proofs.WholeLaws.Second.{is_base}
-use Rattle.cjc_shape.proofs.WholeLaws.Shapes.{forms_refused, ints_refused, is_narrow, shaped, told}
+use Rattle.cjc_shape.proofs.WholeLaws.Shapes.{forms_refused, ints_refused, is_narrow, shaped, told, words_none}
 use Rattle.cjc_shape.proofs.WholeLaws.Shapes.{words_refused}
+use Rattle.cjc_shape.specs.Whole.Working.Shaped.{has_int_mode}
 use Rattle.cjc_shape.proofs.whole.shaping.shape.Goals as goal
+
+-- ---- what is asked of the calls
+
+pub test_words-requires-clause-ready : goal.test_words-requires-clause-ready
+test_words-requires-clause-ready c = let j = c.args.judged.now in rw (c.items.ensures, c.items-2.ensures)
+    (are_ready j.list.now j.files.now j c.requires)
+
+pub test_words-requires-clause-count : goal.test_words-requires-clause-count
+test_words-requires-clause-count c = let j = c.args.judged.now in rw (c.items-3.ensures, c.items.ensures)
+    (modes_count j.list.now j.files.now j c.requires)
+
+pub test_words-requires-clause-own : goal.test_words-requires-clause-own
+test_words-requires-clause-own c = let j = c.args.judged.now in rw c.items-4.ensures
+    (listed_own j.world c.in_ok-members.members c.in_ok-members.ensures.listed)
 
 pub tokens_of-requires-clause-exported : goal.tokens_of-requires-clause-exported
 tokens_of-requires-clause-exported c = let j = c.args.judged.now in few_exported j.list.now j.files.now j c.requires
@@ -29,12 +47,29 @@ pub image_of-requires : goal.image_of-requires
 image_of-requires c = let j = c.args.judged.now in no_image_break j.list.now j.files.now j c.requires
 
 pub narrow_codes-requires-clause-ready : goal.narrow_codes-requires-clause-ready
-narrow_codes-requires-clause-ready c = let j = c.args.judged.now in rw (c.items-2.ensures, c.items-3.ensures)
+narrow_codes-requires-clause-ready c = let j = c.args.judged.now in rw (c.items-5.ensures, c.items-6.ensures)
     (are_ready j.list.now j.files.now j c.requires)
 
+pub narrow_codes-requires-clause-count : goal.narrow_codes-requires-clause-count
+narrow_codes-requires-clause-count c = let j = c.args.judged.now in rw (c.items-7.ensures, c.items-5.ensures)
+    (modes_count j.list.now j.files.now j c.requires)
+
 pub narrow_codes-requires-clause-free : goal.narrow_codes-requires-clause-free
-narrow_codes-requires-clause-free c = let j = c.args.judged.now in rw c.items-2.ensures (free_here j c.requires
-    c.in_ok-test_ints.ensures.unbroken)
+narrow_codes-requires-clause-free c = let j = c.args.judged.now in rw (c.items-5.ensures, c.items-7.ensures)
+    (are_free j c.requires c.in_ok-test_ints.ensures.unbroken)
+
+pub narrow_codes-requires-clause-listed : goal.narrow_codes-requires-clause-listed
+narrow_codes-requires-clause-listed c = rw c.items-8.ensures c.in_ok-members.ensures.listed
+
+pub narrow_codes-requires-clause-room : goal.narrow_codes-requires-clause-room
+narrow_codes-requires-clause-room c =
+    let room = rw (c.items.ensures, c.items-2.ensures, c.items-3.ensures, c.items-4.ensures) at
+    c.in_ok-test_words.ensures.room in
+    rw (c.items-5.ensures, c.items-6.ensures, c.items-7.ensures, c.items-8.ensures) room
+
+pub lay_out-requires-clause-own : goal.lay_out-requires-clause-own
+lay_out-requires-clause-own c = let j = c.args.judged.now in rw c.items-10.ensures
+    (listed_own j.world c.in_ok-members.members c.in_ok-members.ensures.listed)
 
 pub lay_out-requires-clause-whole : goal.lay_out-requires-clause-whole
 lay_out-requires-clause-whole c =
@@ -43,12 +78,15 @@ lay_out-requires-clause-whole c =
     let files = j.files.now in
     let members = c.in_ok-members.members in
     let codes = c.in_ok-codes.codes in
-    let rs = rows list files j c.requires in
-    let are = rows_are list files j c.requires in
-    let by = c.in_ok-codes.ensures rs (rw (c.items-2.ensures, c.items-3.ensures) are)
-    ∙ ap (map (code_at j.world (near_fields (pool_order codes)) rs)) c.items-4.ensures in
+    let exist = c.least_ranges_exist.ensures in
+    let off = no_int_mode j c.requires c.in_ok-test_ints.ensures.unbroken in
+    let t = short_tables (rows list files j c.requires) (own_ranges list files j c.requires exist) in
+    let are = short_told list files j c.requires exist off in
+    let by = c.in_ok-codes.ensures t (rw (c.items-5.ensures, c.items-6.ensures, c.items-7.ensures) are)
+    ∙ ap (map (code_by_mode_at j.world (near_fields (pool_order codes)) t)) c.items-8.ensures in
     subst (λ (cs : List NMethod). All IsWhole cs) (sym by) (c.methods_can_be_laid_out.ensures j.world j.codes j.types
-    (are_ready list files j c.requires) rs are (near_fields (pool_order codes)) members c.in_ok-members.ensures.own)
+    j.modes (are_ready list files j c.requires) (modes_count list files j c.requires) t are
+    (near_fields (pool_order codes)) members (listed_own j.world members c.in_ok-members.ensures.listed))
 
 pub lay_out-requires-clause-count : goal.lay_out-requires-clause-count
 lay_out-requires-clause-count c =
@@ -56,10 +94,15 @@ lay_out-requires-clause-count c =
     let list = j.list.now in
     let files = j.files.now in
     let codes = c.in_ok-codes.codes in
-    let rs = rows list files j c.requires in
-    let by = c.in_ok-codes.ensures rs (rw (c.items-2.ensures, c.items-3.ensures) (rows_are list files j c.requires)) in
-    ap length by ∙ length-map c.items-4.result.now (code_at j.world (near_fields (pool_order codes)) rs)
-    ∙ ap length (c.items-4.ensures ∙ sym c.items-6.ensures)
+    let exist = c.least_ranges_exist.ensures in
+    let off = no_int_mode j c.requires c.in_ok-test_ints.ensures.unbroken in
+    let t = short_tables (rows list files j c.requires) (own_ranges list files j c.requires exist) in
+    let are = short_told list files j c.requires exist off in
+    let by = c.in_ok-codes.ensures t (rw (c.items-5.ensures, c.items-6.ensures, c.items-7.ensures) are) in
+    ap length by ∙ length-map c.items-8.result.now (code_by_mode_at j.world (near_fields (pool_order codes)) t)
+    ∙ ap length (c.items-8.ensures ∙ sym c.items-10.ensures)
+
+-- ---- refusals
 
 pub returns-in_err-test_words-clause-refused : goal.returns-in_err-test_words-clause-refused
 returns-in_err-test_words-clause-refused c =
@@ -68,9 +111,14 @@ returns-in_err-test_words-clause-refused c =
     let files = j.files.now in
     let d = draft list files j c.requires in
     let base = is_base list files j c.requires d (is_draft list files j c.requires) in
+    let exist = c.least_ranges_exist.ensures in
+    let u = own_tables list files j c.requires exist in
+    let has = own_has list files j c.requires exist in
+    let are = tables_told list files j c.requires u has in
     let e = err_from_is_err_and c.from_residual-in_err-test_words.result c.from_residual-in_err-test_words.ensures.1 in
-    rw (e.1, e.2) (words_refused list files j c.requires _ (c.in_err-test_words.ensures.refused d base.by_files
-    (base.by_members ∙ sym (c.items.ensures ∙ c.in_ok-members.ensures.made))))
+    rw (e.1, e.2) (words_refused list files j c.requires u has (has_int_mode j) (tells_here list files j c.requires u
+    has) _ (c.in_err-test_words.ensures.refused u d (rw (c.items.ensures, c.items-2.ensures, c.items-3.ensures) are)
+    base.by_files (base.by_members ∙ sym (c.items-4.ensures ∙ c.in_ok-members.ensures.made))))
 
 pub returns-in_err-test_ints-clause-refused : goal.returns-in_err-test_ints-clause-refused
 returns-in_err-test_ints-clause-refused c =
@@ -79,11 +127,15 @@ returns-in_err-test_ints-clause-refused c =
     let files = j.files.now in
     let d = draft list files j c.requires in
     let base = is_base list files j c.requires d (is_draft list files j c.requires) in
-    let none = c.in_ok-test_words.ensures.unbroken d base.by_files (base.by_members ∙ sym (c.items.ensures
-    ∙ c.in_ok-members.ensures.made)) in
+    let exist = c.least_ranges_exist.ensures in
+    let u = own_tables list files j c.requires exist in
+    let has = own_has list files j c.requires exist in
+    let are = tables_told list files j c.requires u has in
+    let none = c.in_ok-test_words.ensures.unbroken u d (rw (c.items.ensures, c.items-2.ensures, c.items-3.ensures) are)
+    base.by_files (base.by_members ∙ sym (c.items-4.ensures ∙ c.in_ok-members.ensures.made)) in
     let e = err_from_is_err_and c.from_residual-in_err-test_ints.result c.from_residual-in_err-test_ints.ensures.1 in
-    rw (e.1, e.2) (ints_refused list files j c.requires _ none (draft_refused j c.requires _
-    c.in_err-test_ints.ensures.refused))
+    rw (e.1, e.2) (ints_refused list files j c.requires u has (has_int_mode j) (tells_here list files j c.requires u
+    has) _ none (draft_refused j c.requires _ c.in_err-test_ints.ensures.refused))
 
 pub returns-in_err-methods-clause-refused : goal.returns-in_err-methods-clause-refused
 returns-in_err-methods-clause-refused c =
@@ -92,19 +144,33 @@ returns-in_err-methods-clause-refused c =
     let files = j.files.now in
     let d = draft list files j c.requires in
     let base = is_base list files j c.requires d (is_draft list files j c.requires) in
+    let exist = c.least_ranges_exist.ensures in
+    let u = own_tables list files j c.requires exist in
+    let has = own_has list files j c.requires exist in
+    let are = tables_told list files j c.requires u has in
+    let unbroken = c.in_ok-test_ints.ensures.unbroken in
     let codes = c.in_ok-codes.codes in
     let rs = rows list files j c.requires in
-    let narrow = is_narrow list files j c.requires c.items-4.result.now codes (c.items-4.ensures
-    ∙ c.in_ok-members.ensures.made) (c.in_ok-codes.ensures rs (rw (c.items-2.ensures, c.items-3.ensures)
-    (rows_are list files j c.requires))) in
-    let is_told = told list files j c.requires c.items-5.result.now c.items-6.result.now codes c.in_ok-exported.exported
-    (sym c.items-5.ensures) (c.items-6.ensures ∙ c.in_ok-members.ensures.made) narrow
+    let ranges = own_ranges list files j c.requires exist in
+    let short = short_told list files j c.requires exist (no_int_mode j c.requires unbroken) in
+    let by = c.in_ok-codes.ensures (short_tables rs ranges) (rw (
+      c.items-5.ensures,
+      c.items-6.ensures,
+      c.items-7.ensures,
+    ) short)
+    ∙ short_codes j.world (near_fields (pool_order codes)) rs ranges c.items-8.result.now in
+    let narrow = is_narrow list files j c.requires c.items-8.result.now codes (c.items-8.ensures
+    ∙ c.in_ok-members.ensures.made) by in
+    let is_told = told list files j c.requires c.items-9.result.now c.items-10.result.now codes
+    c.in_ok-exported.exported (sym c.items-9.ensures) (c.items-10.ensures ∙ c.in_ok-members.ensures.made) narrow
     (c.in_ok-exported.ensures ∙ ap (λ t. length (constants t)) (c.in_ok-export.ensures d base.by_list base.by_files)) in
-    let none = c.in_ok-test_words.ensures.unbroken d base.by_files (base.by_members ∙ sym (c.items.ensures
-    ∙ c.in_ok-members.ensures.made)) in
+    let none = c.in_ok-test_words.ensures.unbroken u d (rw (c.items.ensures, c.items-2.ensures, c.items-3.ensures) are)
+    base.by_files (base.by_members ∙ sym (c.items-4.ensures ∙ c.in_ok-members.ensures.made)) in
     let e = err_from_is_err_and c.from_residual-in_err-methods.result c.from_residual-in_err-methods.ensures.1 in
-    let free = draft_ints j c.requires ∙ c.in_ok-test_ints.ensures.unbroken in
-    rw (e.1, e.2) (forms_refused list files j c.requires _ none free (c.in_err-methods.ensures.refused d is_told))
+    rw (e.1, e.2) (forms_refused list files j c.requires u has (has_int_mode j) (tells_here list files j c.requires u
+    has) _ none (draft_ints j c.requires ∙ unbroken) (c.in_err-methods.ensures.refused d is_told))
+
+-- ---- the package
 
 pub returns-clause-shaped : goal.returns-clause-shaped
 returns-clause-shaped c =
@@ -113,18 +179,31 @@ returns-clause-shaped c =
     let files = j.files.now in
     let d = draft list files j c.requires in
     let base = is_base list files j c.requires d (is_draft list files j c.requires) in
+    let exist = c.least_ranges_exist.ensures in
+    let u = own_tables list files j c.requires exist in
+    let has = own_has list files j c.requires exist in
+    let are = tables_told list files j c.requires u has in
+    let unbroken = c.in_ok-test_ints.ensures.unbroken in
+    let off = no_int_mode j c.requires unbroken in
     let codes = c.in_ok-codes.codes in
     let rs = rows list files j c.requires in
-    let narrow = is_narrow list files j c.requires c.items-4.result.now codes (c.items-4.ensures
-    ∙ c.in_ok-members.ensures.made) (c.in_ok-codes.ensures rs (rw (c.items-2.ensures, c.items-3.ensures)
-    (rows_are list files j c.requires))) in
-    let members = c.items-6.ensures ∙ c.in_ok-members.ensures.made in
-    let is_told = told list files j c.requires c.items-5.result.now c.items-6.result.now codes c.in_ok-exported.exported
-    (sym c.items-5.ensures) members narrow
+    let ranges = own_ranges list files j c.requires exist in
+    let by = c.in_ok-codes.ensures (short_tables rs ranges) (rw (
+      c.items-5.ensures,
+      c.items-6.ensures,
+      c.items-7.ensures,
+    ) (short_told list files j c.requires exist off))
+    ∙ short_codes j.world (near_fields (pool_order codes)) rs ranges c.items-8.result.now in
+    let narrow = is_narrow list files j c.requires c.items-8.result.now codes (c.items-8.ensures
+    ∙ c.in_ok-members.ensures.made) by in
+    let members = c.items-10.ensures ∙ c.in_ok-members.ensures.made in
+    let is_told = told list files j c.requires c.items-9.result.now c.items-10.result.now codes
+    c.in_ok-exported.exported (sym c.items-9.ensures) members narrow
     (c.in_ok-exported.ensures ∙ ap (λ t. length (constants t)) (c.in_ok-export.ensures d base.by_list base.by_files)) in
-    let none = c.in_ok-test_words.ensures.unbroken d base.by_files (base.by_members ∙ sym (c.items.ensures
-    ∙ c.in_ok-members.ensures.made)) in
-    shaped j c.requires _ c.items-6.result.now codes members narrow c.in_ok-tokens.ensures c.in_ok-image.ensures
-    c.in_ok-methods.ensures.laid (λ p e f. c.in_ok-export.ensures p e f) none
-    (draft_ints j c.requires ∙ c.in_ok-test_ints.ensures.unbroken)
+    let short = all_short list files j c.requires off in
+    let none = words_none list files j c.requires u has (has_int_mode j) (tells_here list files j c.requires u has)
+    short (c.in_ok-test_words.ensures.unbroken u d (rw (c.items.ensures, c.items-2.ensures, c.items-3.ensures) are)
+    base.by_files (base.by_members ∙ sym (c.items-4.ensures ∙ c.in_ok-members.ensures.made))) in
+    shaped j c.requires _ c.items-10.result.now codes members narrow c.in_ok-tokens.ensures c.in_ok-image.ensures
+    c.in_ok-methods.ensures.laid (λ p e f. c.in_ok-export.ensures p e f) short none (draft_free j c.requires unbroken)
     (c.in_ok-methods.ensures.unbroken d is_told)
