@@ -155,14 +155,15 @@ module _ (l : Named) (w : List Class) (constant : MemberId → Option ℤ) (f : 
     -- What comes to a place is known there, by both tables.
     pub comes_to : (to : ℕ) (y : State) (ys : List Cell) (z : RangeState) (zs : List Span) → y.stack ≡ stacks.Cells ys
         → Tells z.stack zs → All IsWord zs → All IsWord z.locals
-        → Covers (type_flow b) f.types to y → Covers (range_flow b constant f.types) f.ranges to (arrival b f.types to z)
+        → Covers (type_flow b) f.types to y
+        → Covers (range_flow b constant f.types) f.ranges to (arrival b f.types to z)
         → Goes to (kinds l ys zs) (kinds l y.locals z.locals)
     comes_to to y ys z zs is_stack tells own own_locals typed_cover ranged_cover =
         let t = typed_cover.row in
         let x = ranged_cover.row in
         let above = typed_cover.above in
-        let below = subst (λ s. (states b.max_locals).Below s x) (arrival_is to t z typed_cover.is_row) ranged_cover.above
-        in
+        let below = subst (λ s. (states b.max_locals).Below s x) (arrival_is to t z typed_cover.is_row)
+        ranged_cover.above in
         let is = is_target b to in
         let cells_above : AllZip IsCellBelow ys (cells_of t.stack) = subst (λ s. IsStackAbove s (stacks.Cells ys))
         (is_cells to t typed_cover.is_row) (subst (IsStackAbove t.stack) is_stack above.0) in
@@ -176,8 +177,8 @@ module _ (l : Named) (w : List Class) (constant : MemberId → Option ℤ) (f : 
           ranged_there = x;
           has_ranges = ranged_cover.is_row;
           stack = kinds_wider l 0 0 ys (cells_of t.stack) zs (spans_of x.stack) cells_above
-              (λ k e. from_zero zs (spans_of x.stack) k (stack_arrives is (cells_of t.stack) z.stack zs x.stack own tells
-              stack_below k e));
+              (λ k e. from_zero zs (spans_of x.stack) k (stack_arrives is (cells_of t.stack) z.stack zs x.stack own
+              tells stack_below k e));
           locals = kinds_wider l 0 0 y.locals t.locals z.locals x.locals above.1 (λ k e. from_zero z.locals x.locals k
               (arrived_within is t.locals z.locals x.locals own_locals locals_below k e));
           low = fits to t typed_cover.is_row;
@@ -228,7 +229,8 @@ module _ (l : Named) (w : List Class) (constant : MemberId → Option ℤ) (f : 
 
       edges_are : (range_flow b constant f.types).edges at x ≡ insn_edges b constant f.types at i t x
       edges_are = ap (λ o. place_edges b constant f.types at o (get_or f.types at None) x) there
-          ∙ ap (λ o. place_edges b constant f.types at (Some i) o x) (get_or_from_slice_get f.types at (Some t) None row)
+          ∙ ap (λ o. place_edges b constant f.types at (Some i) o x)
+          (get_or_from_slice_get f.types at (Some t) None row)
 
       ranges_lead : (e : Edge RangeState) → Contains (insn_edges b constant f.types at i t x) e
           → Covers (range_flow b constant f.types) f.ranges e.to e.state
@@ -236,8 +238,8 @@ module _ (l : Named) (w : List Class) (constant : MemberId → Option ℤ) (f : 
 
       -- Each instruction that may follow is known of.
       pub leads_on : (to : ℕ) → Contains (successors b.insns at i.op) to
-          → Goes to (kinds l (typed.stack_behind i.op t.locals cells) (stack_behind constant i.op cells x.locals numbers))
-          (kinds l (typed.locals_after i.op t.locals t.stack) (locals_after i.op x.locals x.stack))
+          → Goes to (kinds l (typed.stack_behind i.op t.locals cells) (stack_behind constant i.op cells x.locals
+          numbers)) (kinds l (typed.locals_after i.op t.locals t.stack) (locals_after i.op x.locals x.stack))
       leads_on to is =
           comes_to to (whole_after i.op t) (typed.stack_behind i.op t.locals cells) (after constant i.op cells x)
           (stack_behind constant i.op cells x.locals numbers)

@@ -6,6 +6,7 @@ use Rattle.std.specs.List.{AllByRecursion}
 use Rattle.cjc_bytes.specs.Descriptor.{Part, IsClassName}
 use Rattle.cjc_bytes.specs.declared.fault.MemberId.{MemberId}
 use Rattle.cjc_bytes.proofs.Bools.{and_true}
+use Rattle.cjc_code.specs.declared.insn.JInsn.{JInsn}
 use Rattle.cjc_script.specs.declared.value.Value.TheVariants.{Num}
 use Rattle.cjc_script.specs.declared.report.FieldValue.{FieldValue}
 use Rattle.cjc_script.specs.declared.report.Thing.TheVariants as things
@@ -29,11 +30,13 @@ use Rattle.cjc_narrow_proof.specs.Selection.Rows.{narrow_fault}
 use Rattle.cjc_narrow_proof.specs.Selection.Replies.{is_of_some, may_be_thrown, ThrowsAlike}
 use Rattle.cjc_narrow_proof.specs.Selection.Acts.{ActsAreTold}
 use Rattle.cjc_narrow_proof.proofs.SelectionLaws.ActsDone.{acts_alike}
-use Rattle.cjc_narrow_proof.specs.Selection.Tables.{MayRaise}
+use Rattle.cjc_narrow_proof.specs.Selection.Tables.{MayRaise, Point}
 use Rattle.cjc_narrow_proof.specs.Selection.Throws.{IsRaised}
 use Rattle.cjc_narrow_proof.specs.Selection.Reached.{IsAnswered}
 use Rattle.cjc_narrow_proof.specs.Tables.Analysis.{TypesAreTold, table_of}
 use Rattle.cjc_narrow_proof.specs.Tables.Arrays.{ClassesAreNamed}
+use Rattle.cjc_narrow_proof.specs.Tables.Kinds.{point_at}
+use Rattle.cjc_narrow_proof.proofs.TablesLaws.Points.{point_from, point_under}
 use Rattle.cjc_narrow_proof.proofs.TablesLaws.Spelt.{shape_spelt, class_read}
 use Rattle.cjc_narrow.specs.Rows.Package.{fault_name, name_there, plain_import, start_of, first_array, first_cell}
 use Rattle.cjc_narrow.specs.Rows.Package.{element_of_kind, named}
@@ -44,18 +47,20 @@ use Rattle.cjc_narrow_proof.specs.Runs.Tables.{Tables}
 use Rattle.cjc_narrow_proof.specs.Tables.Analysis.{Analysis}
 use Rattle.cjc_narrow_proof.proofs.RunsLaws.Calls.{there_by_name}
 use Rattle.cjc_narrow_proof.proofs.RunsLaws.Named.{made_is_there}
+use Rattle.cjc_int_runs.specs.ByModes.{ShortRule}
 use Rattle.cjc_int_runs.specs.IntFrames.{IntBody}
 use Rattle.cjc_int_runs.specs.Scripted.{AreAsked, none_asked, one_asked}
 use Rattle.cjc_int_alike.specs.ByModes.{analysis_by_mode, bodies_by_mode, body_by, codes_by_mode, look_ups_by_mode}
 use Rattle.cjc_int_alike.specs.ByModes.{result_in}
 use Rattle.cjc_int_alike.specs.Callees.{IsEnteredByMode, IsReachedByMode, IsScriptedByMode, script_finds}
 use Rattle.cjc_int_alike.specs.Callees.{script_finds_none}
-use Rattle.cjc_int_alike.specs.Converted.{IsConvertedByModes, IsFoundByMode, IsIntMember, a_member, no_method}
+use Rattle.cjc_int_alike.specs.Converted.{IsNarrowedByModes, IsFoundByMode, IsIntMember, a_member, no_method}
 use Rattle.cjc_int_alike.specs.Package.{IsModePackage}
 use Rattle.cjc_int_alike.specs.Reached.{IsBegunIn}
 use Rattle.cjc_int_alike.proofs.Modes.{int_begun}
 use Rattle.cjc_int_alike.proofs.Named.{is_supported}
 use Rattle.cjc_int_alike.proofs.Reached.{asks}
+use Rattle.cjc_int_alike.proofs.ShortRules.{short_rule}
 
 -- an imported class, no interface, is one that some file has
 class_there : (o : Option Class) → is_plain_import o ≡ true → (c : Class) × (o ≡ Some c)
@@ -84,7 +89,7 @@ same_fault ClassCast = refl
 same_fault ArrayStore = refl
 
 module _ (files : Files) (image : StaticImage) (near : List MemberId) (tables : Tables) (is_int : Method → Bool)
-    (is : IsConvertedByModes files image near tables is_int) where
+    (is : IsNarrowedByModes files image near tables is_int) where
   abbrev w : List Class
   w = all_classes files
 
@@ -266,6 +271,26 @@ module _ (files : Files) (image : StaticImage) (near : List MemberId) (tables : 
       go true e = refl
       go false e = cc
 
+  off_int_mode : (m : Method) → bodies_by_mode files image near tables is_int m ≡ None → is_int m ≡ false
+  off_int_mode m e = go (is_int m) e
+    where
+      go : (int : Bool) → body_by files image near tables is_int int m ≡ None → int ≡ false
+      go true e = cc
+      go false e = refl
+
+  -- each reached instruction of another method keeps its rule
+  short_methods : (m : Method) → bodies_by_mode files image near tables is_int m ≡ None → (at : ℕ) (p : Point)
+      → (let tb = table_of l a in tb.point m at ≡ Some p) → (i : JInsn) × ((slice_get m.insns at ≡ Some i)
+      × ShortRule by l (table_of l a) (bodies_by_mode files image near tables is_int)
+      (result_in files image near tables is_int) m at p i)
+  short_methods m none at p known =
+      let off = off_int_mode m none in
+      let q = point_under (point_at l (tables.types m) (tables.ranges m) at) (a.opened m at) p known in
+      let h = point_from l (slice_get (tables.types m) at) (slice_get (tables.ranges m) at) q.0 q.1 in
+      short_rule files image near tables is_int is.names m (is.others m at h.typed off h.has_types) off
+      (λ at i t there row. is.named m at i t there row) (λ at i t there row. is.one_word m at i t off there row)
+      types_told classes_named may_throw_all at p known h.typed h.has_types
+
   pub is_package : IsModePackage by l w a (bodies_by_mode files image near tables is_int)
       (result_in files image near tables is_int)
   is_package = record {
@@ -274,9 +299,8 @@ module _ (files : Files) (image : StaticImage) (near : List MemberId) (tables : 
     int_methods = λ m b has. (let on = in_int_mode m b has in int_begun files image near tables is_int m
         (is.int_methods m on) on);
     supported = λ m b has at i t there row. (let on = in_int_mode m b has in is_supported files image near tables is_int
-        is.names m on (cells_of t.stack) i.op (is.named m on at i t there row));
-    few = λ m b has. is.few m (in_int_mode m b has);
-    short_methods = is.short_methods;
+        is.names m on (cells_of t.stack) i.op (is.named m at i t there row));
+    short_methods = short_methods;
     throwables = may_throw_all;
     exceptions = exceptions;
     answered = answered;

@@ -18,6 +18,8 @@ pub mod Modes
 pub mod Named
 pub mod Reached
 pub mod Short
-pub mod Converted
 pub mod ShortCalls
 pub mod ShortReturns
+pub mod ShortNamed
+pub mod ShortRules
+pub mod Converted

@@ -54,7 +54,7 @@ fields_of_cells : (xs : List FieldValue) → map (λ s. s.key) (map first_cell x
 fields_of_cells [] = refl
 fields_of_cells (x ∷ xs) = ap (λ ys. x.field ∷ ys) (fields_of_cells xs)
 
-array_by_class : (class : List ℕ) → starts 91 class ≡ false → array_of class ≡ shape_name (OfReferences class)
+pub array_by_class : (class : List ℕ) → starts 91 class ≡ false → array_of class ≡ shape_name (OfReferences class)
 array_by_class class e = ap (λ b. if b then 91 ∷ class else 91 ∷ 76 ∷ class ++ 59 ∷ []) e
 
 module _ (files : Files) (image : StaticImage) (near : List MemberId) (tables : Tables) (is_int : Method → Bool)
@@ -72,7 +72,7 @@ module _ (files : Files) (image : StaticImage) (near : List MemberId) (tables : 
   abbrev r : Resolution
   r = int_resolution files image near tables is_int m
 
-  field_there : (id f : MemberId) (receiver : Cell) → IsIntFieldOf files image near tables is_int m id f receiver
+  pub field_there : (id f : MemberId) (receiver : Cell) → IsIntFieldOf files image near tables is_int m id f receiver
       → (types : List (List ℕ)) → receiver ≡ Refs types → IntFieldIsThere by l r m id (is_one_of l types)
   unfolding linked resolution
   field_there id f receiver h types e =
@@ -86,7 +86,7 @@ module _ (files : Files) (image : StaticImage) (near : List MemberId) (tables : 
         has = λ kind passes made. subst (λ g. HasField l g kind) (sym same) (h.has types e kind passes made);
       }
 
-  cell_there : (id f : MemberId) → IsIntStaticOf files image near tables is_int m id f → IntCellIsThere by l r m id
+  pub cell_there : (id f : MemberId) → IsIntStaticOf files image near tables is_int m id f → IntCellIsThere by l r m id
   unfolding linked named resolution
   cell_there id f h =
       let agree = fields_agree files image near (let n = m.id in n.class) id in
@@ -101,7 +101,7 @@ module _ (files : Files) (image : StaticImage) (near : List MemberId) (tables : 
             ∙ ap (lists (map (λ cell. cell.field) (cells image files.classes))) same.1 ∙ h.has;
       }
 
-  is_constant : (id : MemberId) (z : ℤ) → field_named files w id ≡ Some (Constant z) → IsConstant by r m id z
+  pub is_constant : (id : MemberId) (z : ℤ) → field_named files w id ≡ Some (Constant z) → IsConstant by r m id z
   unfolding linked resolution
   is_constant id z found = record {
     by_name = found;
@@ -109,7 +109,7 @@ module _ (files : Files) (image : StaticImage) (near : List MemberId) (tables : 
         in n.class) id in agree.constant z found);
   }
 
-  class_is_there : (class : List ℕ) (c : Class) → class_named w class ≡ Some c → IsClassThere by l m class
+  pub class_is_there : (class : List ℕ) (c : Class) → class_named w class ≡ Some c → IsClassThere by l m class
   unfolding linked named
   class_is_there class c there =
       let name = class_read class (class_names class c there) in
@@ -123,7 +123,7 @@ module _ (files : Files) (image : StaticImage) (near : List MemberId) (tables : 
         };
       }
 
-  type_is_there : (type : List ℕ) (kind : Shape (List ℕ)) → shape_named type ≡ Some kind → IsThere w kind
+  pub type_is_there : (type : List ℕ) (kind : Shape (List ℕ)) → shape_named type ≡ Some kind → IsThere w kind
       → IsTypeThere by l m type
   unfolding linked named
   type_is_there type kind named there = record {
@@ -139,7 +139,7 @@ module _ (files : Files) (image : StaticImage) (near : List MemberId) (tables : 
       is_there at locals store _ of_numbers = refl
       is_there at locals store _ (of_references c found) = ap is_some found
 
-  made_there : (class : List ℕ) (fields : List MemberId) → made_of w class ≡ Some fields → list_all is_field fields
+  pub made_there : (class : List ℕ) (fields : List MemberId) → made_of w class ≡ Some fields → list_all is_field fields
       ≡ true → IsMade by l m class
   unfolding linked named
   made_there class fields made are = record { fields = fields; by_name = made; narrow = made; are_fields = are }

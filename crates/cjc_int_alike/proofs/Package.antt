@@ -13,7 +13,7 @@ use Rattle.cjc_int_runs.specs.ByModes.{PackageIsFine}
 use Rattle.cjc_int_runs.specs.IntFrames.{IntBody, StandsByMode}
 use Rattle.cjc_int_runs.specs.Typed.{IntMethodIsWritten}
 use Rattle.cjc_int_alike.specs.Callees.{IsIntBegun, int_code}
-use Rattle.cjc_int_alike.specs.Calls.{IsIntSupported, CallsAreFew}
+use Rattle.cjc_int_alike.specs.Calls.{IsIntSupported}
 use Rattle.cjc_int_alike.specs.Calls as supported
 use Rattle.cjc_int_alike.specs.Method.{int_body, int_reached}
 use Rattle.cjc_int_alike.specs.Package.{IsSupportedByMode, AreSupportedByMode, IsModePackage, plainly, by_name}
@@ -38,10 +38,10 @@ module _ (by : Linked) (l : Named) (w : List Class) (a : Analysis) (bodies : Met
 
   -- A method in int mode is written, with enough known before each of its reached instructions.
   pub method_written : TypesAreTold w l → ClassesAreNamed w l → ThrowablesMay l a → (m : Method)
-      → (h : IsIntBegun by l w a bodies results m) → AreSupportedByMode by l w a bodies results m → CallsAreFew m
+      → (h : IsIntBegun by l w a bodies results m) → AreSupportedByMode by l w a bodies results m
       → IntMethodIsWritten by l (StandsByMode l (table_of l a) bodies) results a.narrowed a.may_throw
       (int_body l (a.resolution m) (a.found m) (int_code a h.tree m)) m
-  method_written types arrays may m h are few =
+  method_written types arrays may m h are =
       let whole = h.whole in
       let f = a.found m in
       record {
@@ -51,7 +51,7 @@ module _ (by : Linked) (l : Named) (w : List Class) (a : Analysis) (bodies : Met
             (a.resolution m) f (int_code a h.tree m) m whole;
         is_typed = method_typed by l (StandsByMode l (table_of l a) bodies) results a.narrowed a.may_throw w
             (a.resolution m) f (int_code a h.tree m) m whole types arrays may h.gives
-            (λ at i t there row. supported_here m (cells_of t.stack) i.op (are at i t there row)) few;
+            (λ at i t there row. supported_here m (cells_of t.stack) i.op (are at i t there row));
       }
 
   pub package_fine : IsModePackage by l w a bodies results → PackageIsFine by l (table_of l a) bodies results
@@ -73,4 +73,4 @@ module _ (by : Linked) (l : Named) (w : List Class) (a : Analysis) (bodies : Met
           → IntMethodIsWritten by l (StandsByMode l (table_of l a) bodies) results a.narrowed a.may_throw b m
       of_method m b has h = subst (λ c. IntMethodIsWritten by l (StandsByMode l (table_of l a) bodies) results
           a.narrowed a.may_throw c m) (some_same (sym h.body ∙ has)) (method_written is.types is.arrays is.throwables m
-          h (is.supported m b has) (is.few m b has))
+          h (is.supported m b has))

@@ -14,9 +14,11 @@ use Rattle.cjc_world.specs.Classes.{all_classes}
 use Rattle.cjc_world.specs.Files.{Files}
 use Rattle.cjc_world.specs.Subtype.{is_subtype}
 use Rattle.cjc_world.specs.declared.image.StaticImage.{StaticImage}
-use Rattle.cjc_types.specs.Flow.{body_of}
+use Rattle.cjc_types.specs.Flow.{Body, body_of}
 use Rattle.cjc_types.specs.Tables.{Breach, IsLeastTable, IsMethodOf}
 use Rattle.cjc_types.specs.Types.{parts}
+use Rattle.cjc_types.specs.declared.state.State.{State}
+use Rattle.cjc_intervals.specs.Frames.{RangeState}
 use Rattle.cjc_intervals.specs.Tables.{IsLeastRanges}
 use Rattle.cjc_flow.specs.Tests.Breaches.{NoBreach}
 use Rattle.cjc_ncode.specs.declared.narrow.NMethod.{NMethod}
@@ -91,6 +93,10 @@ module _ (files : Files) (image : StaticImage) (near : List MemberId) (tables : 
 
 -- ---- a method
 
+-- no operand of a method in int mode breaks one of 605 and 607 to 609, where these are known before its instructions
+abbrev pub PassesInIntMode : Body → List (Option State) → List (Option RangeState) → Type 0
+PassesInIntMode b types ranges = NoBreach (binds modes.Int) b types ranges
+
 -- A method of the package with code, in int mode: its type table is the least, and breaks none of the rules 501 to 503,
 -- and its intervals are the least over it, and break none of 605 and 607 to 609; there is room for what is written
 -- (417). It is found by its own name (202), its parameters and its result are of types of some values (301), its
@@ -107,7 +113,7 @@ pub record HasIntTables (files : Files) (tables : Tables) (m : Method) : Type 0 
       (tables.types (method_by class method (Some tree))) place rule → ⊥
   pub ranges : IsLeastRanges (body_of class method tree code.insns) (constant_named files (all_classes files))
       (tables.types (method_by class method (Some tree))) (tables.ranges (method_by class method (Some tree)))
-  pub passes : NoBreach (binds modes.Int) (body_of class method tree code.insns)
+  pub passes : PassesInIntMode (body_of class method tree code.insns)
       (tables.types (method_by class method (Some tree))) (tables.ranges (method_by class method (Some tree)))
   pub room : IsRoom (body_of class method tree code.insns) (tables.types (method_by class method (Some tree))) modes.Int
       true

@@ -1,5 +1,5 @@
 -- What the look-ups of both sides say of a call in code in int mode, and which instructions of such code are supported.
-use Rattle.std.specs.Prelude.{◌≡◌, ◌≤◌, ℕ, Bool, true, List, length, slice_get, Option, Some, None, codes}
+use Rattle.std.specs.Prelude.{◌≡◌, ℕ, Bool, true, List, slice_get, Option, Some, None, codes}
 use Rattle.std.specs.List.{AllZip, AllByRecursion}
 use Rattle.cjc_bytes.specs.Descriptor.{Part}
 use Rattle.cjc_bytes.specs.declared.fault.MemberId.{MemberId}
@@ -10,7 +10,7 @@ use Rattle.cjc_code.specs.Jvm as jvm
 use Rattle.cjc_code.specs.declared.insn.JInsn.{JInsn}
 use Rattle.cjc_code.specs.declared.insn.JOp.{JOp}
 use Rattle.cjc_code.specs.declared.insn.JOp.TheVariants as jop
-use Rattle.cjc_script.specs.Sorts.{Shape, Sort, Int, OfClass, Reference, Signature, signature_of, sort_of, result_by}
+use Rattle.cjc_script.specs.Sorts.{Shape, Sort, Int, OfClass, Reference, sort_of, result_by}
 use Rattle.cjc_types.specs.Fixpoint.Tables.{HasRow}
 use Rattle.cjc_types.specs.declared.cell.Cell.{Cell}
 use Rattle.cjc_types.specs.declared.cell.Cell.TheVariants.{Refs}
@@ -57,11 +57,6 @@ pub record IsIntDesc (desc : List ℕ) : Type 0 where
 pub record GivesResult (results : Method → Option Sort) (f : Found) (m : Method) : Type 0 where
   pub desc : IsIntDesc (let b = f.body in b.desc)
   pub given : results m ≡ (let b = f.body in let d = parts b.desc in let p = d.result in result_by p.kind p)
-
--- each call of a method's code has at most 255 parameters
-abbrev pub CallsAreFew : Method → Type 0
-CallsAreFew m = (opcode : ℕ) (id : MemberId) (types : Signature) (at : ℕ) (i : JInsn) → slice_get m.insns at ≡ Some i
-    → i.op ≡ jop.Call opcode id → signature_of id.desc ≡ Some types → length types.params ≤ 255
 
 -- ---- arguments
 

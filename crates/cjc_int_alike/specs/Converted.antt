@@ -13,21 +13,17 @@ use Rattle.cjc_world.specs.declared.image.StaticImage.{StaticImage}
 use Rattle.cjc_types.specs.Fixpoint.Tables.{HasRow}
 use Rattle.cjc_types.specs.Search.{cells_of}
 use Rattle.cjc_types.specs.declared.state.State.{State}
-use Rattle.cjc_jvm_semantics.specs.ByName.{linked}
 use Rattle.cjc_jvm_semantics.specs.Effects.{Fault, exception_class}
 use Rattle.cjc_jvm_semantics.specs.Linked.{Method}
 use Rattle.cjc_jvm_semantics.specs.OnePackage.{entry_named, sent_named}
 use Rattle.cjc_narrow_proof.specs.Runs.Converted.{IsException, IsFirst}
-use Rattle.cjc_narrow_proof.specs.Runs.Tables.{Tables}
+use Rattle.cjc_narrow_proof.specs.Runs.Tables.{HasTables, Tables}
 use Rattle.cjc_narrow_proof.specs.Runs.Types.{IsThere}
 use Rattle.cjc_narrow_proof.specs.Selection.Relation.{IsMadeOf}
-use Rattle.cjc_narrow_proof.specs.Selection.Tables.{Point}
-use Rattle.cjc_narrow_proof.specs.Tables.Analysis.{table_of}
 use Rattle.cjc_narrow_proof.specs.Tables.Calls.{types_of}
-use Rattle.cjc_int_runs.specs.ByModes.{ShortRule}
-use Rattle.cjc_int_alike.specs.ByModes.{HasIntTables, analysis_by_mode, bodies_by_mode, look_ups_by_mode, result_in}
-use Rattle.cjc_int_alike.specs.Calls.{CallsAreFew, IsIntDesc}
-use Rattle.cjc_int_alike.specs.Named.{IsIntNamed}
+use Rattle.cjc_int_alike.specs.ByModes.{HasIntTables, look_ups_by_mode}
+use Rattle.cjc_int_alike.specs.Calls.{IsIntDesc}
+use Rattle.cjc_int_alike.specs.Named.{IsIntNamed, IsOneWord}
 use Rattle.cjc_int_alike.specs.Reached.{IsBegunIn}
 
 module _ (files : Files) (image : StaticImage) (near : List MemberId) (tables : Tables) (is_int : Method → Bool) where
@@ -55,22 +51,19 @@ module _ (files : Files) (image : StaticImage) (near : List MemberId) (tables : 
         → sent_named files (all_classes files) (shape_name kind) id ≡ None) → IsFoundByMode id
     a_member : IsIntMember id → IsFoundByMode id
 
-  -- Methods in int mode have least tables that break none of their rules, classes have names of classes, and the
-  -- machine's own exceptions are imported. What code in int mode and scripts name is found in the class files and
-  -- export files, and what the image says is of sound types. Each reached instruction of other methods keeps its rule.
-  pub record IsConvertedByModes : Type 0 where
+  -- Methods in int mode have least tables that break none of their rules, and so have the others, where they are
+  -- reached, of the rules that bind them. Classes have names of classes, and the machine's own exceptions are imported.
+  -- What code and scripts name is found in the class files and export files, and has one word where the code is not in
+  -- int mode; and what the image says is of sound types.
+  pub record IsNarrowedByModes : Type 0 where
     pub int_methods : (m : Method) → is_int m ≡ true → HasIntTables files tables m
+    pub others : (m : Method) (at : ℕ) (t : State) → is_int m ≡ false → HasRow (tables.types m) at t
+        → HasTables files tables m
     pub names : (name : List ℕ) (c : Class) → class_named (all_classes files) name ≡ Some c → IsClassName name
     pub exceptions : (fault : Fault) → IsException (all_classes files) (exception_class fault)
-    pub named : (m : Method) → is_int m ≡ true → (at : ℕ) (i : JInsn) (t : State) → slice_get m.insns at ≡ Some i
+    pub named : (m : Method) (at : ℕ) (i : JInsn) (t : State) → slice_get m.insns at ≡ Some i
         → HasRow (tables.types m) at t → IsIntNamed files image near tables is_int m (cells_of t.stack) i.op
-    pub few : (m : Method) → is_int m ≡ true → CallsAreFew m
+    pub one_word : (m : Method) (at : ℕ) (i : JInsn) (t : State) → is_int m ≡ false → slice_get m.insns at ≡ Some i
+        → HasRow (tables.types m) at t → IsOneWord i.op
     pub scripted : (id : MemberId) → IsFoundByMode id
     pub first : IsFirst (look_ups_by_mode files image near tables is_int) files image
-    pub short_methods : (m : Method) → bodies_by_mode files image near tables is_int m ≡ None → (at : ℕ) (p : Point)
-        → (let tb = table_of (look_ups_by_mode files image near tables is_int)
-        (analysis_by_mode files image near tables is_int) in tb.point m at ≡ Some p) → (i : JInsn)
-        × ((slice_get m.insns at ≡ Some i) × ShortRule (linked files image)
-        (look_ups_by_mode files image near tables is_int) (table_of (look_ups_by_mode files image near tables is_int)
-        (analysis_by_mode files image near tables is_int)) (bodies_by_mode files image near tables is_int)
-        (result_in files image near tables is_int) m at p i)

@@ -8,3 +8,4 @@ pub mod ByModes
 pub mod Named
 pub mod Reached
 pub mod Converted
+pub mod LowerIntRuns

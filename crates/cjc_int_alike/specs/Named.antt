@@ -1,8 +1,9 @@
 -- What the class files and export files say of the names in an instruction of a method in int mode.
-use Rattle.std.specs.Prelude.{◌≡◌, ℕ, Bool, true, false, List, [], ◌∷◌, map, Some, ℤ}
+use Rattle.std.specs.Prelude.{◌≡◌, ◌==◌, ℕ, Bool, true, false, List, [], ◌∷◌, map, Some, ℤ}
 use Rattle.std.specs.List.{list_all}
 use Rattle.cjc_bytes.specs.declared.fault.MemberId.{MemberId}
 use Rattle.cjc_range.specs.Span.{Holds, full}
+use Rattle.cjc_code.specs.Jvm as jvm
 use Rattle.cjc_code.specs.declared.insn.JOp.{JOp}
 use Rattle.cjc_code.specs.declared.insn.JOp.TheVariants as jop
 use Rattle.cjc_script.specs.Sorts.{Shape, shape_named, field_sort}
@@ -20,7 +21,8 @@ use Rattle.cjc_narrow_proof.specs.Runs.Tables.{Tables}
 use Rattle.cjc_narrow_proof.specs.Runs.Types.{IsThere}
 use Rattle.cjc_narrow_proof.specs.Selection.Objects.{is_field}
 use Rattle.cjc_narrow_proof.specs.Selection.Relation.{IsMadeOf}
-use Rattle.cjc_narrow_proof.specs.Selection.Rows.{lists, HasField}
+use Rattle.cjc_narrow_proof.specs.Selection.Rows.{lists, HasField, is_word_sort}
+use Rattle.cjc_narrow_proof.specs.Tables.Calls.{IsWordDesc}
 use Rattle.cjc_narrow_proof.specs.Tables.Kinds.{is_one_of}
 use Rattle.cjc_narrow_proof.specs.Tables.Names.{IsDesc}
 use Rattle.cjc_narrow_proof.specs.Tables.Supported.{IsPlain, IsReturn}
@@ -33,6 +35,17 @@ use Rattle.cjc_int_alike.specs.Names.{IsOnIntArray}
 pub record IsFieldDesc (desc : List ℕ) : Type 0 where
   pub is_desc : IsDesc desc
   pub some_value : has_values (field_sort desc) ≡ true
+
+-- What an instruction names in a method that is not in int mode has one word: a field, parameters and a result, the
+-- elements of arrays.
+abbrev pub IsOneWord : JOp → Type 0
+IsOneWord (jop.Field put id) = is_word_sort (field_sort id.desc) ≡ true
+IsOneWord (jop.Static put id) = is_word_sort (field_sort id.desc) ≡ true
+IsOneWord (jop.Call op id) = IsWordDesc id.desc
+IsOneWord (jop.NewArray n) = (n == 10) ≡ false
+IsOneWord (jop.ArrayLoad n) = (n == jvm.iaload) ≡ false
+IsOneWord (jop.ArrayStore n) = (n == jvm.iastore) ≡ false
+IsOneWord op = Unit {0}
 
 module _ (files : Files) (image : StaticImage) (near : List MemberId) (tables : Tables) (is_int : Method → Bool)
     (m : Method) where
@@ -52,7 +65,7 @@ module _ (files : Files) (image : StaticImage) (near : List MemberId) (tables : 
     pub has : lists (map (λ cell. cell.field) (cells image files.classes)) f ≡ true
 
   -- An instruction in code of m, on a stack of these types: it names nothing, or what the class files and export files
-  -- have; a call reaches the same on both sides.
+  -- have, as code in int mode may name it; a call reaches the same on both sides.
   pub data IsIntNamed (stack : List Cell) : JOp → Type 0 where
     names_nothing : {op : JOp} → IsPlain op → IsIntNamed stack op
     is_on_array : {op : JOp} → IsOnIntArray op → IsIntNamed stack op

@@ -21,7 +21,6 @@ use Rattle.cjc_narrow_proof.specs.Tables.Supported.{IsPlain, IsReturn}
 use Rattle.cjc_int_runs.specs.ByModes.{ShortRule}
 use Rattle.cjc_int_runs.specs.IntFrames.{IntBody}
 use Rattle.cjc_int_alike.specs.Callees.{IsCalledByMode, IsIntBegun, IsScriptedByMode}
-use Rattle.cjc_int_alike.specs.Calls.{CallsAreFew}
 use Rattle.cjc_int_alike.specs.Names.{IsIntResolved, IsOnIntArray}
 
 module _ (by : Linked) (l : Named) (w : List Class) (a : Analysis) (bodies : Method → Option IntBody)
@@ -52,7 +51,6 @@ module _ (by : Linked) (l : Named) (w : List Class) (a : Analysis) (bodies : Met
     pub arrays : ClassesAreNamed w l
     pub int_methods : (m : Method) (b : IntBody) → bodies m ≡ Some b → IsIntBegun by l w a bodies results m
     pub supported : (m : Method) (b : IntBody) → bodies m ≡ Some b → AreSupportedByMode m
-    pub few : (m : Method) (b : IntBody) → bodies m ≡ Some b → CallsAreFew m
     pub short_methods : (m : Method) → bodies m ≡ None → (at : ℕ) (p : Point)
         → (let tb = table_of l a in tb.point m at ≡ Some p) → (i : JInsn) × ((slice_get m.insns at ≡ Some i)
         × ShortRule by l (table_of l a) bodies results m at p i)

@@ -29,7 +29,7 @@ ghost use Rattle.cjc_int_mode.specs.Room.{IsRoom};
 ghost use Rattle.cjc_int_mode.specs.Written.{written_in_int_mode};
 ghost use Rattle.cjc_int_runs.specs.IntFrames.{IntBody, StandsByMode};
 ghost use Rattle.cjc_int_runs.specs.Typed.{IsWritten, IntMethodIsTyped, TellsClasses};
-ghost use Rattle.cjc_int_alike.specs.Calls.{AreIntSupported, CallsAreFew, GivesResult, MayThrowThrowables};
+ghost use Rattle.cjc_int_alike.specs.Calls.{AreIntSupported, GivesResult, MayThrowThrowables};
 ghost use Rattle.cjc_int_alike.specs.Method.{IsIntRead, IsIntSound, IsIntWhole, found_of, int_body, int_reached};
 
 /// What is written in int mode for a method that was decoded, by any tables, is written for the instructions that its
@@ -53,7 +53,7 @@ pub fn int_methods_are_typed()
         → IsIntWhole by l tb.may_throw w r f m → TypesAreTold w l → ClassesAreNamed w l
         → MayThrowThrowables by l (StandsByMode l tb bodies) results tb.narrowed tb.may_throw r m
         → GivesResult results f m
-        → AreIntSupported by l (StandsByMode l tb bodies) results tb.narrowed tb.may_throw r m f → CallsAreFew m
+        → AreIntSupported by l (StandsByMode l tb bodies) results tb.narrowed tb.may_throw r m f
         → IntMethodIsTyped by l (StandsByMode l tb bodies) results tb.narrowed tb.may_throw (int_body l r f code) m }
     ensures tells { (by : Linked) (l : Named) (tb : Table) (bodies : Method → Option IntBody)
         (results : Method → Option Sort) (w : List Class) (r : Resolution) (f : Found) (code : NMethod) (m : Method)

@@ -25,7 +25,8 @@ ghost use Rattle.cjc_narrow.specs.Rows.Package.{run as narrow_run};
 ghost use Rattle.cjc_narrow_proof.specs.Runs.Tables.{HasTables, Tables};
 ghost use Rattle.cjc_narrow_proof.specs.Selection.Objects.{class_of};
 ghost use Rattle.cjc_narrow_proof.specs.Selection.Tables.{Point};
-ghost use Rattle.cjc_narrow_proof.specs.Tables.Analysis.{Analysis, TypesAreTold, table_of};
+ghost use Rattle.cjc_narrow_proof.specs.Tables.Analysis.{Analysis, ThrowablesMay, TypesAreTold, table_of};
+ghost use Rattle.cjc_narrow_proof.specs.Tables.Arrays.{ClassesAreNamed};
 ghost use Rattle.cjc_narrow_proof.specs.Tables.Calls.{IsWhole, IsWordDesc};
 ghost use Rattle.cjc_narrow_proof.specs.Tables.Pairs.{StandsAlone};
 ghost use Rattle.cjc_narrow_proof.specs.Tables.Supported.{IsReturn};
@@ -36,8 +37,8 @@ ghost use Rattle.cjc_int_alike.specs.ByModes.{HasIntTables, analysis_by_mode, bo
 ghost use Rattle.cjc_int_alike.specs.ByModes.{int_resolution, look_ups_by_mode, result_in};
 ghost use Rattle.cjc_int_alike.specs.Callees.{IsCalledByMode, IsIntBegun, IsScriptedByMode, IsShortBegun};
 ghost use Rattle.cjc_int_alike.specs.Calls.{IsIntCalled};
-ghost use Rattle.cjc_int_alike.specs.Converted.{IsConvertedByModes};
-ghost use Rattle.cjc_int_alike.specs.Named.{IsIntNamed};
+ghost use Rattle.cjc_int_alike.specs.Converted.{IsNarrowedByModes};
+ghost use Rattle.cjc_int_alike.specs.Named.{IsIntNamed, IsOneWord};
 ghost use Rattle.cjc_int_alike.specs.Package.{IsModePackage, IsSupportedByMode};
 ghost use Rattle.cjc_int_alike.specs.Reached.{IsIntReceiverOn, IsIntStaticOn};
 
@@ -116,19 +117,41 @@ pub fn other_methods_with_least_tables_begin()
         (result_in files image near tables is_int) m }
 {}
 
-/// Whole runs of a package by modes agree, where its methods in int mode have least tables that break none of their
-/// rules, and room, and the class files and export files have what they and scripts name; and where the reached
-/// instructions of its other methods keep their rules among methods of both modes. Where the run by name of n
-/// instructions is over, the run by label of 4,096 n of what is written by modes agrees with it.
+/// Each reached instruction of a method that is not in int mode keeps its rule among methods of both modes, where the
+/// method has least tables that break no rule, and what its reached instructions name is found in the class files and
+/// export files and has one word each.
+pub fn other_methods_keep_rules()
+    ensures { (files : Files) (image : StaticImage) (near : List MemberId) (tables : Tables) (is_int : Method → Bool)
+        → ((name : List ℕ) (c : Class) → class_named (all_classes files) name ≡ Some c → IsClassName name)
+        → (m : Method) → HasTables files tables m → is_int m ≡ false → ((at : ℕ) (i : JInsn) (t : State)
+        → slice_get m.insns at ≡ Some i → HasRow (tables.types m) at t → IsIntNamed files image near tables is_int m
+        (cells_of t.stack) i.op) → ((at : ℕ) (i : JInsn) (t : State) → slice_get m.insns at ≡ Some i
+        → HasRow (tables.types m) at t → IsOneWord i.op)
+        → TypesAreTold (all_classes files) (look_ups_by_mode files image near tables is_int)
+        → ClassesAreNamed (all_classes files) (look_ups_by_mode files image near tables is_int)
+        → ThrowablesMay (look_ups_by_mode files image near tables is_int)
+        (analysis_by_mode files image near tables is_int) → (at : ℕ) (p : Point)
+        → (let tb = table_of (look_ups_by_mode files image near tables is_int)
+        (analysis_by_mode files image near tables is_int) in tb.point m at ≡ Some p) → (t : State)
+        → HasRow (tables.types m) at t → (i : JInsn) × ((slice_get m.insns at ≡ Some i)
+        × ShortRule (linked files image) (look_ups_by_mode files image near tables is_int)
+        (table_of (look_ups_by_mode files image near tables is_int)
+        (analysis_by_mode files image near tables is_int)) (bodies_by_mode files image near tables is_int)
+        (result_in files image near tables is_int) m at p i) }
+{}
+
+/// Whole runs of a package by modes agree, where its methods have least tables that break none of the rules of their
+/// modes, and those in int mode room, and the class files and export files have what they and scripts name. Where the
+/// run by name of n instructions is over, the run by label of 4,096 n of what is written by modes agrees with it.
 pub fn packages_by_modes_run_alike()
     ensures fine { (files : Files) (image : StaticImage) (near : List MemberId) (tables : Tables)
-        (is_int : Method → Bool) → IsConvertedByModes files image near tables is_int
+        (is_int : Method → Bool) → IsNarrowedByModes files image near tables is_int
         → PackageIsFine (linked files image) (look_ups_by_mode files image near tables is_int)
         (table_of (look_ups_by_mode files image near tables is_int)
         (analysis_by_mode files image near tables is_int)) (bodies_by_mode files image near tables is_int)
         (result_in files image near tables is_int) }
     ensures runs { (files : Files) (image : StaticImage) (near : List MemberId) (tables : Tables)
-        (is_int : Method → Bool) → IsConvertedByModes files image near tables is_int → (script : Script)
+        (is_int : Method → Bool) → IsNarrowedByModes files image near tables is_int → (script : Script)
         → Agree 4096 (λ n. run_by_name files image script n)
         (λ n. narrow_run files image (codes_by_mode files image near tables is_int) script n) }
 {}

@@ -40,12 +40,12 @@ use Rattle.cjc_world.specs.ClassFile.declared.tree.ClassTree.{ClassTree}
 use Rattle.cjc_world.specs.ClassFile.declared.tree.MethodTree.{MethodTree}
 use Rattle.cjc_world.specs.Classes.{all_classes}
 use Rattle.cjc_world.specs.Files.{Files}
-use Rattle.cjc_int_components.specs.Names.{WordsFit}
+use Rattle.cjc_int_selection.specs.Names.{WordsFit}
 use Rattle.cjc_int_components.proofs.ByTables.{int_written}
-use Rattle.cjc_int_components.proofs.Numbers.{int_numbers_fit}
-use Rattle.cjc_int_components.proofs.Operands.{int_operands_fit}
-use Rattle.cjc_int_components.proofs.Said.{int_code_said}
-use Rattle.cjc_int_components.proofs.Selectable.{int_selectable}
+use Rattle.cjc_int_selection.proofs.Numbers.{int_numbers_fit}
+use Rattle.cjc_int_selection.proofs.Operands.{int_operands_fit}
+use Rattle.cjc_int_selection.proofs.Said.{int_code_said}
+use Rattle.cjc_int_selection.proofs.Selectable.{int_selectable}
 
 -- ---- reached instructions
 

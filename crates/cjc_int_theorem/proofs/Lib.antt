@@ -5,3 +5,5 @@ pub mod ShortCode
 pub mod IntCode
 pub mod Methods
 pub mod OfFiles
+pub mod SameCode
+pub mod IntTables

@@ -55,7 +55,7 @@ use Rattle.cjc_int_components.specs.Modes.{AreModes, Tables, is_int}
 use Rattle.cjc_int_components.specs.Written.{IsWrittenByMode, code_by_mode, code_in}
 use Rattle.cjc_int_components.proofs.ByModes.{written_outside}
 use Rattle.cjc_int_components.proofs.ByTables.{insns_are, int_made, int_code_same}
-use Rattle.cjc_int_components.proofs.Constants.{constants_fit}
+use Rattle.cjc_int_selection.proofs.Constants.{constants_fit}
 use Rattle.cjc_int_components.proofs.Operations.{names_by_modes}
 use Rattle.cjc_int_components.proofs.Room.{room_in_int_mode, works_in_int_mode}
 use Rattle.cjc_int_components.proofs.Words.{methods_are}

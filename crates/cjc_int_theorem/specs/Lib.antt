@@ -1,1 +1,2 @@
 pub mod ByModes
+pub mod Alike

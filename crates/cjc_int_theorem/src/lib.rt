@@ -3,5 +3,6 @@
 //! command uses it.
 #![tactic(auto)]
 
+pub mod alike;
 pub mod joined;
 pub mod written;
