@@ -61,6 +61,7 @@ module _ (list : ListTree) (files : List (List ℕ)) (judged : Judged) (p : Pack
     read = by.read;
     of_package = by.of_package;
     types = λ e. let clash : false ≡ true = e in absurd cc;
+    modes = λ e. let clash : false ≡ true = e in absurd cc;
   }
 
   there : p.files ≡ judged.world

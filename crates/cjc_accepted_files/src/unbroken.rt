@@ -1,7 +1,6 @@
 //! All rules that the type checker's command tests: what a conversion wrote, read back beside the files that it was
 //! made from, breaks none of them.
 ghost use Rattle.std.specs.Prelude.{◌≡◌, ℕ, List as Items, [], Some, map};
-ghost use Rattle.cjc_accepted_proof.specs.Accepted.{CodeStands};
 ghost use Rattle.cjc_components.specs.Bytes.Breaks.{Break};
 ghost use Rattle.cjc_components.specs.LowerCapRead.declared.tree.CapTree.{CapTree};
 ghost use Rattle.cjc_components.specs.LowerCheckRules.Complete.{Complete, complete};
@@ -11,13 +10,11 @@ ghost use Rattle.cjc_cmd_card.specs.Report.Runs.{AnyBreaks};
 ghost use Rattle.cjc_cmd_card.specs.CmdCheck.Folder.Breaks.{cap_in};
 ghost use Rattle.cjc_cmd_card.specs.CmdCheck.Folder.Reads.{plan_of_parts};
 ghost use Rattle.cjc_cmd_convert.specs.Publication.{below, files_made};
-ghost use Rattle.cjc_components.specs.Package.{Package};
 ghost use Rattle.cjc_convert.specs.Conversion.{IsConverted};
 ghost use Rattle.cjc_convert.specs.declared.conversion.Converted.{Converted as Written};
 ghost use Rattle.cjc_shape_proof.specs.LowerJudge.Rules.{files_spelt, has_applets};
 ghost use Rattle.cjc_shape_proof.specs.LowerJudge.Spelt.{FileTree, IsRead, SpellTrees, classes_of, exports_of};
 ghost use Rattle.cjc_components.specs.LowerList.Listed.{ListTree};
-ghost use Rattle.cjc_shape_proof.specs.LowerShape.Whole.Conversion.{IsPackageOf};
 ghost use Rattle.cjc_shape_proof.specs.Written.Converted.{IsConverted as IsConvertedPackage};
 ghost use Rattle.cjc_shelf.specs.Command.Plan.{complete as complete_with, verdict};
 ghost use Rattle.cjc_shelf.specs.Command.Publish.{Stand};
@@ -32,6 +29,7 @@ use crate::folder::written_files_are_read_back;
 use crate::paired::written_components_are_paired;
 use cjc_accepted_theorem::converted::converted_packages_are_accepted;
 use cjc_accepted_theorem::read_back::written_components_are_accepted;
+use cjc_accepted_theorem::stands::code_of_converted_packages_stands;
 use cjc_cmd_card::check_rules::consistent_where_unbroken;
 use cjc_shape_proof::written::converted_files_are_sound;
 use cjc_theorem::alike::names_are_met;
@@ -68,16 +66,16 @@ pub fn written_files_break_nothing()
     written_files_are_read_back();
 }
 
-/// Nor do they break one of the type checker's, where each method of the package has a closed table that breaks none.
+/// Nor do they break one of the type checker's.
 pub fn written_files_are_accepted()
     ensures { (list : ListTree) (files : Items (Items ℕ)) (made : Written) → IsRead list → IsConverted list files made
         → (trees : Items FileTree) → SpellTrees list.lines files trees → ExportsAreFair (exports_of trees)
-        → ((p : Package) → IsPackageOf list files p → CodeStands p)
         → (spelt : Items FileTree) → SpellTrees list.lines files spelt
         → (image : StaticImage) → IsImage (files_spelt list spelt) (all_codes (classes_of spelt)) image
         → (cap : CapTree) → cap_in (parts_of made.caps) ≡ Some cap → (c : Complete) → complete cap ≡ Some c
         → IsVerified (pair_of (has_applets list) (files_spelt list spelt) image c) }
 {
+    code_of_converted_packages_stands();
     conversions_are_of_packages();
     converted_packages_are_accepted();
     written_components_are_accepted();

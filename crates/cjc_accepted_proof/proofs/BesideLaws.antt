@@ -139,6 +139,7 @@ module _ (p : Package) (m : Beside) (codes : List MethodCode) (is : IsBeside p m
     pub written_for : IsWrittenFor (card_type p) (is_of p) (names_in p m) (body_by_name m) m.rows (opened_in p m)
         (step_in p m) (frames_of (written_pair p) v) (offset_in p m)
     written_for = record {
+      few = checked.served.in_code.few;
       steps = steps_same ∙ ap (steps_from (step_in p m) 0) is.insns;
       at = λ k insn. refl;
       ascends = λ j k lt le. (

@@ -42,6 +42,7 @@ use Rattle.cjc_frames.specs.declared.acts.Step.{Step}
 use Rattle.cjc_accepted_proof.specs.Beside.{Beside, IsBeside, body_by_name, label_in, names_in, offset_in, opened_in}
 use Rattle.cjc_accepted_proof.specs.Beside.{reached_in, step_in}
 use Rattle.cjc_accepted_proof.specs.Coded.{card_type, is_of}
+use Rattle.cjc_accepted_proof.specs.Frames.{IsCaughtAs}
 use Rattle.cjc_accepted_proof.specs.Methods.{IsHandlerFor, steps_for, steps_from}
 use Rattle.cjc_accepted_proof.specs.Written.{written_pair}
 
@@ -168,172 +169,173 @@ module _ (r : Resolution) where
 module _ (p : Package) (m : Beside) (codes : _) (is : IsBeside p m codes) (can : AllWritable (names p) p.methods)
     (stand : HandlersStand (names p) (placed_at m.offset m.laid) (part p))
     (caught : (d : NCatch) → Contains (let laid = m.laid in let code = laid.code in code.catches) d
-    → caught_type (written_pair p) (class_index (names p) d.class) ≡ card_type p (type_by_name d.class)) where
-  -- one that catches by its index the card's type of its class
-  abbrev IsNamed : NCatch → Type 0
-  IsNamed d = caught_type (written_pair p) (class_index (names p) d.class) ≡ card_type p (type_by_name d.class)
+    → IsCaughtAs (card_type p) (caught_type (written_pair p) (class_index (names p) d.class)) (type_by_name d.class))
+  where
+    -- one that catches by its index the card's type of its class
+    abbrev IsNamed : NCatch → Type 0
+    IsNamed d = IsCaughtAs (card_type p) (caught_type (written_pair p) (class_index (names p) d.class)) (type_by_name
+        d.class)
 
-  abbrev to : ℕ → ℕ
-  to = offset_in p m
+    abbrev to : ℕ → ℕ
+    to = offset_in p m
 
-  abbrev label : ℕ → ℕ
-  label = label_in p m
+    abbrev label : ℕ → ℕ
+    label = label_in p m
 
-  abbrev r : Resolution
-  r = names_in p m
+    abbrev r : Resolution
+    r = names_in p m
 
-  abbrev b : BodyByName
-  b = body_by_name m
+    abbrev b : BodyByName
+    b = body_by_name m
 
-  abbrev count : ℕ
-  count = length (let laid = m.laid in let code = laid.code in code.insns)
+    abbrev count : ℕ
+    count = length (let laid = m.laid in let code = laid.code in code.insns)
 
-  label_few : (o : ℕ) → label o ≤ count
-  label_few o =
-      let few = place_few r label (reached_in m) o in
-      let same = ap length is.insns in
-      omega (arith, few, same)
+    label_few : (o : ℕ) → label o ≤ count
+    label_few o =
+        let few = place_few r label (reached_in m) o in
+        let same = ap length is.insns in
+        omega (arith, few, same)
 
-  grows : (j k : ℕ) → j ≤ k → to j ≤ to k
-  grows j k le = label_grows (names p) m.offset m.laid (can is.number m.laid is.is_laid) j k le
+    grows : (j k : ℕ) → j ≤ k → to j ≤ to k
+    grows j k le = label_grows (names p) m.offset m.laid (can is.number m.laid is.is_laid) j k le
 
-  ascends : (j k : ℕ) → j < k → k ≤ count → to j < to k
-  ascends j k lt le = label_ascends (names p) m.offset m.laid (can is.number m.laid
-      is.is_laid) j k lt le
+    ascends : (j k : ℕ) → j < k → k ≤ count → to j < to k
+    ascends j k lt le = label_ascends (names p) m.offset m.laid (can is.number m.laid
+        is.is_laid) j k lt le
 
-  -- a step of what is written for an instruction
-  step_here : (from : ℕ) (insns : List NInsn) (s : Step) → Contains (steps_from (step_in p m) from insns) s
-      → (j : ℕ) × (j < length insns) × (s.at ≡ to (from + j))
-  step_here from [] s (k, lt, e) = absurd (omega (arith, lt))
-  step_here from (x ∷ insns) s on = by (contains_cons (step_in p m from x) (steps_from (step_in p m) (from + 1) insns) s
-      on) (step_here (from + 1) insns s)
-    where
-      by : ((step_in p m from x ≡ s) ⊎ Contains (steps_from (step_in p m) (from + 1) insns) s)
-          → (Contains (steps_from (step_in p m) (from + 1) insns) s → (j : ℕ) × (j < length insns) × (s.at ≡ to (from
-          + 1
-          + j))) → (j : ℕ) × (j < length (x ∷ insns)) × (s.at ≡ to (from + j))
-      by (inl same) more =
-          let none : from ≡ from + 0 = omega arith in
-          (0, omega arith, sym (ap (λ (z : Step). z.at) same) ∙ ap to none)
-      by (inr later) more =
-          let rest = more later in
-          let lt = rest.1 in
-          let next : from + 1 + rest.0 ≡ from + suc rest.0 = omega arith in
-          (suc rest.0, omega (arith, lt), rest.2 ∙ ap to next)
+    -- a step of what is written for an instruction
+    step_here : (from : ℕ) (insns : List NInsn) (s : Step) → Contains (steps_from (step_in p m) from insns) s
+        → (j : ℕ) × (j < length insns) × (s.at ≡ to (from + j))
+    step_here from [] s (k, lt, e) = absurd (omega (arith, lt))
+    step_here from (x ∷ insns) s on = by (contains_cons (step_in p m from x) (steps_from (step_in p m) (from + 1) insns) s
+        on) (step_here (from + 1) insns s)
+      where
+        by : ((step_in p m from x ≡ s) ⊎ Contains (steps_from (step_in p m) (from + 1) insns) s)
+            → (Contains (steps_from (step_in p m) (from + 1) insns) s → (j : ℕ) × (j < length insns) × (s.at ≡ to (from
+            + 1
+            + j))) → (j : ℕ) × (j < length (x ∷ insns)) × (s.at ≡ to (from + j))
+        by (inl same) more =
+            let none : from ≡ from + 0 = omega arith in
+            (0, omega arith, sym (ap (λ (z : Step). z.at) same) ∙ ap to none)
+        by (inr later) more =
+            let rest = more later in
+            let lt = rest.1 in
+            let next : from + 1 + rest.0 ≡ from + suc rest.0 = omega arith in
+            (suc rest.0, omega (arith, lt), rest.2 ∙ ap to next)
 
-  module _ (at : ℕ) (i : JInsn) (x : State) (there : slice_get b.insns at ≡ Some i) (row : HasRow m.rows at x)
-      (s : Step) (within : Contains (steps_for (card_type p) (is_of p) r b m.rows (opened_in p m) (step_in p m) (label
-      i.at) i) s) where
-    abbrev here : (j : ℕ) × (j < length (written_for r label i)) × (s.at ≡ to (label i.at + j))
-    here = step_here (label i.at) (written_for r label i) s within
+    module _ (at : ℕ) (i : JInsn) (x : State) (there : slice_get b.insns at ≡ Some i) (row : HasRow m.rows at x)
+        (s : Step) (within : Contains (steps_for (card_type p) (is_of p) r b m.rows (opened_in p m) (step_in p m) (label
+        i.at) i) s) where
+      abbrev here : (j : ℕ) × (j < length (written_for r label i)) × (s.at ≡ to (label i.at + j))
+      here = step_here (label i.at) (written_for r label i) s within
 
-    abbrev k : ℕ
-    k = label i.at + here.0
+      abbrev k : ℕ
+      k = label i.at + here.0
 
-    fixed : length (written_for r label i) ≡ size r i
-    fixed = size_fixed r label (λ z. 0) i
+      fixed : length (written_for r label i) ≡ size r i
+      fixed = size_fixed r label (λ z. 0) i
 
-    kept : (j : ℕ) × (slice_get (reached_in m) j ≡ Some i)
-    kept = reached_at b.insns m.rows at i x there row
+      kept : (j : ℕ) × (slice_get (reached_in m) j ≡ Some i)
+      kept = reached_at b.insns m.rows at i x there row
 
-    k_inside : k < count
-    k_inside =
-        let lt = here.1 in
-        let long = fixed in
-        let over = place_over r (reached_in m) (suc i.at) kept.0 i kept.1 (omega arith) in
-        let few = label_few (suc i.at) in
-        omega (arith, lt, long, over, few)
+      k_inside : k < count
+      k_inside =
+          let lt = here.1 in
+          let long = fixed in
+          let over = place_over r (reached_in m) (suc i.at) kept.0 i kept.1 (omega arith) in
+          let few = label_few (suc i.at) in
+          omega (arith, lt, long, over, few)
 
-    -- the range of a handler by labels is its range by offsets
-    in_range : (d : CatchByName) → to (label d.start) ≤ s.at → s.at < to (label d.start) + (to (label d.end)
-        - to (label d.start)) → covers_by_name d i.at ≡ true
-    in_range d low high =
-        let at_same = here.2 in
-        let lt = here.1 in
-        let long = fixed in
-        let start_low : label d.start ≤ k = ⊎_elim
-        (λ less. (let up = ascends k (label d.start) less (label_few d.start) in absurd (omega (
-          arith,
-          up,
-          low,
-          at_same,
-        ))))
-        (λ le. le)
-        (cases_lt k (label d.start)) in
-        let end_high : k < label d.end = ⊎_elim
-        (λ less. less)
-        (λ le. (let up = grows (label d.end) k le in let down = grows (label d.start) k start_low
-        in absurd (omega (arith, up, down, low, high, at_same))))
-        (cases_lt k (label d.end)) in
-        let from : d.start ≤ i.at = ⊎_elim
-        (λ less. (let over = place_over r (reached_in m) d.start kept.0 i kept.1 less
-        in absurd (omega (arith, over, start_low, lt, long))))
-        (λ le. le)
-        (cases_lt i.at d.start) in
-        let under : i.at < d.end = ⊎_elim
-        (λ less. less)
-        (λ le. (let up = place_up r (reached_in m) d.end i.at le in absurd (omega (arith, up, end_high))))
-        (cases_lt i.at d.end) in
-        let first_test : nat_le d.start i.at ≡ true = grind (arith, nat_tests, from) in
-        let second_test : nat_lt i.at d.end ≡ true = grind (arith, nat_tests, under) in
-        ap (λ (t : Bool). t && nat_lt i.at d.end) first_test ∙ second_test
+      -- the range of a handler by labels is its range by offsets
+      in_range : (d : CatchByName) → to (label d.start) ≤ s.at → s.at < to (label d.start) + (to (label d.end)
+          - to (label d.start)) → covers_by_name d i.at ≡ true
+      in_range d low high =
+          let at_same = here.2 in
+          let lt = here.1 in
+          let long = fixed in
+          let start_low : label d.start ≤ k = ⊎_elim
+          (λ less. (let up = ascends k (label d.start) less (label_few d.start) in absurd (omega (
+            arith,
+            up,
+            low,
+            at_same,
+          ))))
+          (λ le. le)
+          (cases_lt k (label d.start)) in
+          let end_high : k < label d.end = ⊎_elim
+          (λ less. less)
+          (λ le. (let up = grows (label d.end) k le in let down = grows (label d.start) k start_low
+          in absurd (omega (arith, up, down, low, high, at_same))))
+          (cases_lt k (label d.end)) in
+          let from : d.start ≤ i.at = ⊎_elim
+          (λ less. (let over = place_over r (reached_in m) d.start kept.0 i kept.1 less
+          in absurd (omega (arith, over, start_low, lt, long))))
+          (λ le. le)
+          (cases_lt i.at d.start) in
+          let under : i.at < d.end = ⊎_elim
+          (λ less. less)
+          (λ le. (let up = place_up r (reached_in m) d.end i.at le in absurd (omega (arith, up, end_high))))
+          (cases_lt i.at d.end) in
+          let first_test : nat_le d.start i.at ≡ true = grind (arith, nat_tests, from) in
+          let second_test : nat_lt i.at d.end ≡ true = grind (arith, nat_tests, under) in
+          ap (λ (t : Bool). t && nat_lt i.at d.end) first_test ∙ second_test
 
-    -- a handler of Method that covers it
-    pub handler_for : (c : Catch) → Contains (catches (written_pair p)) c → covers c s.at ≡ true
-        → IsHandlerFor (card_type p) (is_of p) r b m.rows (opened_in p m) (step_in p m) to c i
-    handler_for c on cover =
-        let f = in_mapped (catch (written_pair p)) (let q = components p in let x = q.method in x.handlers) c on in
-        let h = f.0 in
-        let at_same = here.2 in
-        let inside = k_inside in
-        let last : to k < to count = ascends k count inside (omega arith) in
-        let begin : to 0 ≤ to k = grows 0 k (omega arith) in
-        let none : first (placed_at m.offset m.laid) ≤ to 0 = omega arith in
-        let tests = and_true (nat_le c.start s.at) (nat_lt s.at (c.start + c.length)) cover in
-        let c_start : h.start ≡ c.start = ap (λ (z : Catch). z.start) f.2 in
-        let c_length : h.length ≡ c.length = ap (λ (z : Catch). z.length) f.2 in
-        let low : c.start ≤ s.at = (let e = tests.0 in grind (arith, nat_tests, e)) in
-        let high : s.at < c.start + c.length = (let e = tests.1 in grind (arith, nat_tests, e)) in
-        let from : h.start ≤ s.at = omega (arith, low, c_start) in
-        let under : s.at < h.start + h.length = omega (arith, high, c_start, c_length) in
-        let start_low : first (placed_at m.offset m.laid) ≤ s.at = omega (arith, begin, none, at_same) in
-        let end_high : s.at ≤ to count = omega (arith, last, at_same) in
-        let table = (let q = placed_at m.offset m.laid in let x = q.method in x.catches) in
-        let own : Contains (handlers_of (names p) to table) h = ⊎_elim
-        (λ early. absurd (elsewhere_covers (first (placed_at m.offset m.laid)) (to count) s.at stand.earlier h start_low
-        end_high stand.earlier_elsewhere early from under))
-        (λ more. ⊎_elim
-        (λ here. here)
-        (λ late. absurd (elsewhere_covers (first (placed_at m.offset m.laid)) (to count) s.at stand.later h start_low
-        end_high stand.later_elsewhere late from under))
-        (Contains-append_cases (handlers_of (names p) to table) stand.later h more))
-        (Contains-append_cases stand.earlier (handlers_of (names p) to table ++ stand.later) h (subst (λ (hs : List
-        Handler). Contains hs h) stand.table f.1)) in
-        let g = in_handlers (names p) to table h own in
-        let nc = g.0 in
-        let tree = m.tree in
-        let all : AllByRecursion (IsFor label tree.catches) (let laid = m.laid in let code = laid.code in code.catches)
-        = subst (AllByRecursion (IsFor label tree.catches)) (sym is.catches) (all_for label tree.catches tree.catches
-        (λ d within. within)) in
-        let mine = each_in (IsFor label tree.catches) table nc (each_ordered (IsFor label tree.catches) (let laid =
-        m.laid
-        in let code = laid.code in code.catches) all) g.2 in
-        let laid_catches = (let laid = m.laid in let code = laid.code in code.catches) in
-        let named : IsNamed nc = each_in IsNamed table nc (each_ordered IsNamed laid_catches (all_of IsNamed
-        laid_catches caught)) g.2 in
-        let d = mine.0 in
-        let same : handler_of (names p) to (catch_at label d) g.1 ≡ h = ap (λ (z : NCatch). handler_of (names p) to z
-        g.1) mine.2 ∙ g.3 in
-        let h_start : to (label d.start) ≡ h.start = ap (λ (z : Handler). z.start) same in
-        let h_length : to (label d.end) - to (label d.start) ≡ h.length = ap (λ (z : Handler). z.length) same in
-        let h_target : to (label d.target) ≡ h.handler = ap (λ (z : Handler). z.handler) same in
-        let h_index : class_index (names p) d.class ≡ h.catch_index = ap (λ (z : Handler). z.catch_index) same in
-        record {
-          catch = d;
-          listed = mine.1;
-          covers = in_range d (omega (arith, h_start, from)) (omega (arith, h_start, h_length, under));
-          caught = sym (ap (λ (z : Catch). z.caught) f.2) ∙ ap (caught_type (written_pair p)) (sym h_index)
-              ∙ ap (λ (z : NCatch). caught_type (written_pair p) (class_index (names p) z.class)) mine.2 ∙ named
-              ∙ ap (λ (z : NCatch). card_type p (type_by_name z.class)) (sym mine.2);
-          target = sym (ap (λ (z : Catch). z.target) f.2) ∙ sym h_target;
-        }
+      -- a handler of Method that covers it
+      pub handler_for : (c : Catch) → Contains (catches (written_pair p)) c → covers c s.at ≡ true
+          → IsHandlerFor (card_type p) (is_of p) r b m.rows (opened_in p m) (step_in p m) to c i
+      handler_for c on cover =
+          let f = in_mapped (catch (written_pair p)) (let q = components p in let x = q.method in x.handlers) c on in
+          let h = f.0 in
+          let at_same = here.2 in
+          let inside = k_inside in
+          let last : to k < to count = ascends k count inside (omega arith) in
+          let begin : to 0 ≤ to k = grows 0 k (omega arith) in
+          let none : first (placed_at m.offset m.laid) ≤ to 0 = omega arith in
+          let tests = and_true (nat_le c.start s.at) (nat_lt s.at (c.start + c.length)) cover in
+          let c_start : h.start ≡ c.start = ap (λ (z : Catch). z.start) f.2 in
+          let c_length : h.length ≡ c.length = ap (λ (z : Catch). z.length) f.2 in
+          let low : c.start ≤ s.at = (let e = tests.0 in grind (arith, nat_tests, e)) in
+          let high : s.at < c.start + c.length = (let e = tests.1 in grind (arith, nat_tests, e)) in
+          let from : h.start ≤ s.at = omega (arith, low, c_start) in
+          let under : s.at < h.start + h.length = omega (arith, high, c_start, c_length) in
+          let start_low : first (placed_at m.offset m.laid) ≤ s.at = omega (arith, begin, none, at_same) in
+          let end_high : s.at ≤ to count = omega (arith, last, at_same) in
+          let table = (let q = placed_at m.offset m.laid in let x = q.method in x.catches) in
+          let own : Contains (handlers_of (names p) to table) h = ⊎_elim
+          (λ early. absurd (elsewhere_covers (first (placed_at m.offset m.laid)) (to count) s.at stand.earlier h start_low
+          end_high stand.earlier_elsewhere early from under))
+          (λ more. ⊎_elim
+          (λ here. here)
+          (λ late. absurd (elsewhere_covers (first (placed_at m.offset m.laid)) (to count) s.at stand.later h start_low
+          end_high stand.later_elsewhere late from under))
+          (Contains-append_cases (handlers_of (names p) to table) stand.later h more))
+          (Contains-append_cases stand.earlier (handlers_of (names p) to table ++ stand.later) h (subst (λ (hs : List
+          Handler). Contains hs h) stand.table f.1)) in
+          let g = in_handlers (names p) to table h own in
+          let nc = g.0 in
+          let tree = m.tree in
+          let all : AllByRecursion (IsFor label tree.catches) (let laid = m.laid in let code = laid.code in code.catches)
+          = subst (AllByRecursion (IsFor label tree.catches)) (sym is.catches) (all_for label tree.catches tree.catches
+          (λ d within. within)) in
+          let mine = each_in (IsFor label tree.catches) table nc (each_ordered (IsFor label tree.catches) (let laid =
+          m.laid
+          in let code = laid.code in code.catches) all) g.2 in
+          let laid_catches = (let laid = m.laid in let code = laid.code in code.catches) in
+          let named : IsNamed nc = each_in IsNamed table nc (each_ordered IsNamed laid_catches (all_of IsNamed
+          laid_catches caught)) g.2 in
+          let d = mine.0 in
+          let same : handler_of (names p) to (catch_at label d) g.1 ≡ h = ap (λ (z : NCatch). handler_of (names p) to z
+          g.1) mine.2 ∙ g.3 in
+          let h_start : to (label d.start) ≡ h.start = ap (λ (z : Handler). z.start) same in
+          let h_length : to (label d.end) - to (label d.start) ≡ h.length = ap (λ (z : Handler). z.length) same in
+          let h_target : to (label d.target) ≡ h.handler = ap (λ (z : Handler). z.handler) same in
+          let h_index : class_index (names p) d.class ≡ h.catch_index = ap (λ (z : Handler). z.catch_index) same in
+          record {
+            catch = d;
+            listed = mine.1;
+            covers = in_range d (omega (arith, h_start, from)) (omega (arith, h_start, h_length, under));
+            caught = subst (λ o. IsCaughtAs (card_type p) o (type_by_name d.class)) (ap (caught_type (written_pair p))
+                h_index ∙ ap (λ (z : Catch). z.caught) f.2) (subst IsNamed (sym mine.2) named);
+            target = sym (ap (λ (z : Catch). z.target) f.2) ∙ sym h_target;
+          }

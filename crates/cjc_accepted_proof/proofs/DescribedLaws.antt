@@ -152,7 +152,7 @@ module _ (p : Package) where
       (sort_nibbles (class_ref p)) sort_alike s.params)
       ∙ ap (λ ns. flat_map (sort_nibbles (class_ref p)) s.params ++ ns) (result_alike s.result)
 
-  wanted : (desc : List ℕ) → IsOnCard desc → pairs.nibbles_of q desc ≡ Some (nibbles_of p desc)
+  pub wanted : (desc : List ℕ) → IsOnCard desc → pairs.nibbles_of q desc ≡ Some (nibbles_of p desc)
   wanted desc card = ap (λ b. if b then Some (nibbles_by (pairs.class_ref q) desc (signature_of desc)) else None) card
       ∙ ap Some (nibbles_alike desc (signature_of desc))
 

@@ -19,9 +19,10 @@ use Rattle.cjc_frames.specs.Acts.{Subtype, given}
 use Rattle.cjc_frames.specs.Flow.{Body, entry}
 use Rattle.cjc_frames.specs.declared.acts.Given.{Given}
 use Rattle.cjc_frames.specs.declared.acts.Given.TheVariants.{AnObject}
-use Rattle.cjc_accepted_proof.specs.Frames.{AreTypesFor, SubtypesAgree, card_cell, card_cells, card_state, with_type}
+use Rattle.cjc_accepted_proof.specs.Frames.{AreTypesFor, SubtypesAgree, card_cell, card_cells, card_state}
 use Rattle.cjc_accepted_proof.proofs.KindsLaws.{result_puts}
 use Rattle.cjc_accepted_proof.proofs.RowsLaws.{mapped_both, zip_both, zip_itself}
+use Rattle.cjc_accepted_proof.proofs.TypesLaws.{own_below}
 
 module _ (card_type : List ℕ → Option (List ℕ)) where
   abbrev cells : List Cell → List Cell
@@ -88,6 +89,6 @@ module _ (card_type : List ℕ → Option (List ℕ)) where
         ++ map value_of ps))
     arguments_below true class holder e ps ts typed = params_below ps ts typed
     arguments_below false class holder e ps ts typed = (
-      subst (λ (o : Option (List ℕ)). IsCellBelow (Refs (holder ∷ [])) (Refs (with_type o []))) (sym e) (λ n i. i),
+      own_below card_type class holder e,
       params_below ps ts typed,
     )

@@ -13,9 +13,9 @@ use Rattle.cjc_types.specs.declared.state.Stack.{Stack}
 use Rattle.cjc_types.specs.declared.state.Stack.TheVariants.{Cells, Clash}
 use Rattle.cjc_types.specs.declared.state.State.{State}
 use Rattle.cjc_verify.specs.Narrow.Pairs.Open.{Open, begun, closed, pushed}
-use Rattle.cjc_accepted_proof.specs.Frames.{card_cell, card_cells, card_stack, card_state, left_out}
+use Rattle.cjc_accepted_proof.specs.Frames.{AreFew, card_cell, card_cells, card_stack, card_state, left_out}
 use Rattle.cjc_accepted_proof.specs.Methods.{between, without_top}
-use Rattle.cjc_accepted_proof.proofs.TypesLaws.{cells_below, types_few, types_set}
+use Rattle.cjc_accepted_proof.proofs.TypesLaws.{cells_below, types_set}
 
 module _ (card_type : List ℕ → Option (List ℕ)) where
   abbrev cells : List Cell → List Cell
@@ -52,54 +52,52 @@ module _ (card_type : List ℕ → Option (List ℕ)) where
 
   -- ---- frames
 
-  cell_own : (x : Cell) → IsCell x → IsCell (card_cell card_type x)
-  cell_own Number h = tt
-  cell_own Unusable h = tt
-  cell_own (Refs names) h = let fewer = types_few card_type names in let few = h.few in record {
-    set = types_set card_type names;
-    few = omega (arith, fewer, few);
-  }
+  module _ (few_types : AreFew card_type) where
+    cell_own : (x : Cell) → IsCell x → IsCell (card_cell card_type x)
+    cell_own Number h = tt
+    cell_own Unusable h = tt
+    cell_own (Refs names) h = record { set = types_set card_type names; few = few_types names }
 
-  cells_own : (xs : List Cell) → All IsCell xs → All IsCell (cells xs)
-  cells_own xs h = All-map IsCell (card_cell card_type) xs (λ k d lt. cell_own _ (h k d lt))
+    cells_own : (xs : List Cell) → All IsCell xs → All IsCell (cells xs)
+    cells_own xs h = All-map IsCell (card_cell card_type) xs (λ k d lt. cell_own _ (h k d lt))
 
-  -- fewer cells are a stack as well
-  cells_stack : (xs ys : List Cell) → IsCellStack xs → length ys ≤ length xs → All IsCell ys → IsCellStack (cells ys)
-  cells_stack xs ys h le own = let few = h.few in let long = length-map ys (card_cell card_type) in record {
-    few = omega (arith, few, long, le);
-    own = cells_own ys own;
-  }
+    -- fewer cells are a stack as well
+    cells_stack : (xs ys : List Cell) → IsCellStack xs → length ys ≤ length xs → All IsCell ys → IsCellStack (cells ys)
+    cells_stack xs ys h le own = let few = h.few in let long = length-map ys (card_cell card_type) in record {
+      few = omega (arith, few, long, le);
+      own = cells_own ys own;
+    }
 
-  left_own : (o : Open) (xs : List Cell) → IsCellStack xs → IsCellStack (cells (left_out card_type o xs))
-  left_own closed xs h = cells_stack xs xs h (omega arith) h.own
-  left_own begun [] h = cells_stack [] [] h (omega arith) h.own
-  left_own begun (x ∷ xs) h = cells_stack (x ∷ xs) xs h (omega arith) (All-tail IsCell x xs h.own)
-  left_own pushed [] h = cells_stack [] [] h (omega arith) h.own
-  left_own pushed (x ∷ []) h = cells_stack (x ∷ []) (x ∷ []) h (omega arith) h.own
-  left_own pushed (x ∷ y ∷ xs) h = cells_stack (x ∷ y ∷ xs) (x ∷ xs) h (omega arith) (All-cons IsCell x xs (All-head
-      IsCell x (y ∷ xs) h.own) (All-tail IsCell y xs (All-tail IsCell x (y ∷ xs) h.own)))
+    left_own : (o : Open) (xs : List Cell) → IsCellStack xs → IsCellStack (cells (left_out card_type o xs))
+    left_own closed xs h = cells_stack xs xs h (omega arith) h.own
+    left_own begun [] h = cells_stack [] [] h (omega arith) h.own
+    left_own begun (x ∷ xs) h = cells_stack (x ∷ xs) xs h (omega arith) (All-tail IsCell x xs h.own)
+    left_own pushed [] h = cells_stack [] [] h (omega arith) h.own
+    left_own pushed (x ∷ []) h = cells_stack (x ∷ []) (x ∷ []) h (omega arith) h.own
+    left_own pushed (x ∷ y ∷ xs) h = cells_stack (x ∷ y ∷ xs) (x ∷ xs) h (omega arith) (All-cons IsCell x xs (All-head
+        IsCell x (y ∷ xs) h.own) (All-tail IsCell y xs (All-tail IsCell x (y ∷ xs) h.own)))
 
-  stack_own : (o : Open) (x : Stack) → IsStack x → IsStack (card_stack card_type o x)
-  stack_own o (Cells xs) h = left_own o xs h
-  stack_own o Clash h = tt
+    stack_own : (o : Open) (x : Stack) → IsStack x → IsStack (card_stack card_type o x)
+    stack_own o (Cells xs) h = left_own o xs h
+    stack_own o Clash h = tt
 
-  top_own : (x : Stack) → IsStack x → IsStack (without_top x)
-  top_own (Cells []) h = h
-  top_own (Cells (x ∷ xs)) h = let few = h.few in record { few = omega (arith, few); own = All-tail IsCell x xs h.own }
-  top_own Clash h = tt
+    top_own : (x : Stack) → IsStack x → IsStack (without_top x)
+    top_own (Cells []) h = h
+    top_own (Cells (x ∷ xs)) h = let few = h.few in record { few = omega (arith, few); own = All-tail IsCell x xs h.own }
+    top_own Clash h = tt
 
-  locals_own : (n : ℕ) (xs : List Cell) → IsListOf cells_in_order n xs → IsListOf cells_in_order n (cells xs)
-  locals_own n xs h = record { sized = length-map xs (card_cell card_type) ∙ h.sized; own = cells_own xs h.own }
+    locals_own : (n : ℕ) (xs : List Cell) → IsListOf cells_in_order n xs → IsListOf cells_in_order n (cells xs)
+    locals_own n xs h = record { sized = length-map xs (card_cell card_type) ∙ h.sized; own = cells_own xs h.own }
 
-  -- the frame of the card is one
-  pub state_own : (n : ℕ) (o : Open) (x : State) → (let s = states n in s.Own x)
-      → (let s = states n in s.Own (card_state
-      card_type o x))
-  state_own n o x h = (stack_own o x.stack h.0, locals_own n x.locals h.1)
+    -- the frame of the card is one
+    pub state_own : (n : ℕ) (o : Open) (x : State) → (let s = states n in s.Own x)
+        → (let s = states n in s.Own (card_state
+        card_type o x))
+    state_own n o x h = (stack_own o x.stack h.0, locals_own n x.locals h.1)
 
-  -- and so is one between two instructions
-  pub between_own : (n : ℕ) (x : State) → (let s = states n in s.Own x) → (let s = states n in s.Own (record {
-    stack = card_stack card_type closed (without_top x.stack);
-    locals = cells x.locals;
-  }))
-  between_own n x h = (stack_own closed (without_top x.stack) (top_own x.stack h.0), locals_own n x.locals h.1)
+    -- and so is one between two instructions
+    pub between_own : (n : ℕ) (x : State) → (let s = states n in s.Own x) → (let s = states n in s.Own (record {
+      stack = card_stack card_type closed (without_top x.stack);
+      locals = cells x.locals;
+    }))
+    between_own n x h = (stack_own closed (without_top x.stack) (top_own x.stack h.0), locals_own n x.locals h.1)

@@ -3,7 +3,7 @@
 use Rattle.cjc_types.specs.ClassFile.declared.tree.Catch.{Catch as CatchByName}
 use Rattle.std.proofs.Common.{◌≡◌, ℕ, zero, suc, ◌+◌, ◌-◌, ◌<◌, ◌≤◌, refl, sym, ap, subst, ◌∙◌, arith, Bool, true}
 use Rattle.std.proofs.Common.{false, List, [], ◌∷◌, ◌++◌, length, length-append, map, drop, get_or, slice_get, Option}
-use Rattle.std.proofs.Common.{Some, None, append_assoc}
+use Rattle.std.proofs.Common.{Some, None, append_assoc, inl, inr}
 use Rattle.std.specs.Prelude.{◌&&◌, ◌||◌, ◌==◌, not, nat_lt, option_to_list, if◌then◌else◌}
 use Rattle.std.specs.List.{AllZip}
 use Rattle.std.proofs.lemmas.Bool.Decides.{nat_tests}
@@ -17,6 +17,7 @@ use Rattle.cjc_types.specs.Bytecode.declared.insn.JOp.{JOp}
 use Rattle.cjc_types.specs.Bytecode.declared.insn.JOp.TheVariants as jop
 use Rattle.cjc_verify.specs.CardSemantics.Bytecode.Effects.{Letter}
 use Rattle.cjc_types.specs.Cells.{IsCellBelow}
+use Rattle.cjc_types.specs.Names.{In, IsWithin}
 use Rattle.cjc_types.specs.Flow.{Body}
 use Rattle.cjc_types.specs.Rules.{accepts, has_wrong as has_wrong_by_name, is_number, is_value, is_value_of}
 use Rattle.cjc_types.specs.Rules.{is_of as is_of_class, receiver_class}
@@ -41,9 +42,9 @@ use Rattle.cjc_verify.specs.Instructions.{calling, calling_on, getting}
 use Rattle.cjc_accepted_proof.specs.Frames.{AreTypesFor, FieldFits, IsTypeFor, MethodFits, Mirrors, PassesFor}
 use Rattle.cjc_accepted_proof.specs.Frames.{card_state}
 use Rattle.cjc_accepted_proof.specs.Frames.{SubtypesAgree, card_cell, card_cells}
-use Rattle.cjc_accepted_proof.specs.Frames.{with_type}
-use Rattle.cjc_accepted_proof.proofs.RowsLaws.{cell_itself, zip_itself}
-use Rattle.cjc_accepted_proof.proofs.TypesLaws.{class_passes}
+use Rattle.cjc_accepted_proof.specs.Frames.{IsCaughtAs, by_any, by_name, its_own, thrown, types_named}
+use Rattle.cjc_accepted_proof.proofs.RowsLaws.{zip_itself}
+use Rattle.cjc_accepted_proof.proofs.TypesLaws.{class_passes, own_below, type_in}
 
 -- an operand that is there is one that the instruction accepts
 operand_there : (w : List Class) (b : Body) (op : JOp) (count k : ℕ) (s : List Cell) → has_wrong_by_name w b op count
@@ -128,11 +129,7 @@ module _ (card_type : List ℕ → Option (List ℕ)) (is_of : Subtype) (w : Lis
       by kinds.Bool Boolean class e = (tt, tt)
       by kinds.Byte Byte class e = (tt, tt)
       by kinds.Short Short class e = (tt, tt)
-      by kinds.Ref (Reference type) class e = (
-        subst (λ (o : Option (List ℕ)). IsCellBelow (Refs (type ∷ [])) (Refs (with_type
-            o []))) (sym e) (cell_itself (Refs (type ∷ []))),
-        tt,
-      )
+      by kinds.Ref (Reference type) class e = (own_below card_type class type e, tt)
       by kinds.Void Void class e = tt
       by kind t class e = absurd e
 
@@ -297,20 +294,24 @@ module _ (card_type : List ℕ → Option (List ℕ)) (is_of : Subtype) (w : Lis
 
 -- ---- handlers
 
-one_type : (o : Option (List ℕ)) → IsCellBelow (Refs (option_to_list o)) (Refs (with_type o []))
-one_type None = λ n i. i
-one_type (Some type) = λ n i. i
+listed_some : (o : Option (List ℕ)) (n : List ℕ) → In n (option_to_list o) → o ≡ Some n
+listed_some None n i = absurd i
+listed_some (Some type) n (inl same) = ap Some same
+listed_some (Some type) n (inr none) = absurd none
+
+caught_types : (card_type : List ℕ → Option (List ℕ)) (o : Option (List ℕ)) (class : List ℕ) → IsCaughtAs card_type o
+    class → IsWithin (option_to_list o) (types_named card_type (class ∷ []))
+caught_types card_type o class (by_name e) n i = type_in card_type (class ∷ []) class n (inl refl) (its_own (sym e
+    ∙ listed_some o n i))
+caught_types card_type o class (by_any is e) n i = type_in card_type (class ∷ []) class n (inl refl) (thrown is (sym e
+    ∙ listed_some o n i))
 
 -- the exception that a handler takes is of the type of its class
 pub handler_below : (card_type : List ℕ → Option (List ℕ)) (o : Open) (count : ℕ) (c : Catch) (j : CatchByName)
-    → c.caught ≡ card_type (caught_type j.class) → (x : State)
+    → IsCaughtAs card_type c.caught (caught_type j.class) → (x : State)
     → (let s = states count in s.Below (caught c (card_state card_type o x)) (card_state card_type closed
     (caught_by_name j x)))
 handler_below card_type o count c j is x = (
-  (
-    subst (λ (e : Option (List ℕ)). IsCellBelow (Refs (option_to_list e)) (card_cell card_type (Refs (caught_type
-        j.class ∷ [])))) (sym is) (one_type (card_type (caught_type j.class))),
-    tt,
-  ),
+  (caught_types card_type c.caught (caught_type j.class) is, tt),
   zip_itself (card_cells card_type x.locals),
 )

@@ -434,8 +434,8 @@ module _ (card_type : List ℕ → Option (List ℕ)) (is_of : Subtype) (r : Res
         let own : (let s = states count in s.Own x) = subst (λ n. let s = states n in s.Own x) (sym is.locals)
         (table.own o.at x o.is_row) in
         subst (λ (v : Block). let s = states count in s.Own v.before × s.Own v.middle) (sym o.is_made_of) (
-          state_own card_type count (opened o.at) x own,
-          between_own card_type count x own,
+          state_own card_type is.few count (opened o.at) x own,
+          between_own card_type is.few count x own,
         )
 
     all_stand : (q : ℕ) (k : Block) → slice_get blocks q ≡ Some k → AllStand is_of count m.max_stack k.before k.middle

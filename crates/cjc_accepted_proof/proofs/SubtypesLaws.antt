@@ -14,7 +14,7 @@ use Rattle.cjc_check_proof.specs.NCode.Lowering.Naming.{Naming}
 use Rattle.cjc_verify.specs.Components.Types.{shape_nibbles}
 use Rattle.cjc_check_proof.proofs.NarrowProofSpelt.{shape_spelt}
 use Rattle.cjc_check_proof.specs.TokenProof.ByToken.Supers.{HasShape, KindsAgree}
-use Rattle.cjc_accepted_proof.specs.Frames.{SubtypesAgree, is_there, nibbles_there, type_named}
+use Rattle.cjc_accepted_proof.specs.Frames.{NamesAgree, is_there, nibbles_there, type_named}
 use Rattle.cjc_accepted_proof.specs.Read.{RefsAreRead}
 
 module _ (w : List Class) (n : Naming) (kinds : KindsAgree w n) (read : RefsAreRead w n) where
@@ -54,7 +54,7 @@ module _ (w : List Class) (n : Naming) (kinds : KindsAgree w n) (read : RefsAreR
       by None f g = absurd cc
       by (Some a) f g = at a f (is_there w a) refl g
 
-  pub subtypes_agree : SubtypesAgree (type_named w ref) (is_type_of l) w
+  pub subtypes_agree : NamesAgree (type_named w ref) (is_type_of l) w
   subtypes_agree sub sup t u e f g =
       let a = meant sub t f in
       let b = meant sup u g in

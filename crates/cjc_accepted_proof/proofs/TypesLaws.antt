@@ -1,23 +1,28 @@
 -- The card's types of types by name: a type that passes by name passes by token, and fewer names give fewer types.
 use Rattle.std.proofs.Common.{◌≡◌, ◌⊎◌, ℕ, suc, ◌+◌, ◌≤◌, refl, sym, ap, subst, ◌∙◌, arith, inl, inr, ⊎_elim, Bool}
-use Rattle.std.proofs.Common.{true}
+use Rattle.std.proofs.Common.{true, false}
 use Rattle.std.proofs.Common.{List, [], ◌∷◌, length, Option, Some, None}
-use Rattle.std.specs.Prelude.{◌&&◌}
+use Rattle.std.specs.Prelude.{◌&&◌, if◌then◌else◌}
 use Rattle.std.specs.List.{AllZip, list_all}
-use Rattle.cjc_types.specs.Cells.{IsCellBelow}
+use Rattle.std.specs.Str.{bytes_eq}
+use Rattle.std.proofs.lemmas.Slice.Eq.{bytes_eq-Decides}
+use Rattle.cjc_types.proofs.BytesLists.{name_is}
+use Rattle.cjc_types.specs.Cells.{IsCellBelow, most_names}
 use Rattle.std.specs.declared.cmp.Ordering.{Ordering}
 use Rattle.std.specs.declared.cmp.Ordering.TheVariants.{Less, Equal, Greater}
-use Rattle.cjc_types.specs.Names.{In, IsSet, IsWithin, compare, insert, placed}
-use Rattle.cjc_types.specs.Rules.{all_types, is_reference}
-use Rattle.cjc_types.specs.Working.NameLaws.{insert_cases, insert_new, insert_old, set_insert}
+use Rattle.cjc_types.specs.Names.{In, IsSet, IsWithin, compare, insert, placed, union}
+use Rattle.cjc_types.specs.Rules.{all_types, is_reference, throwable}
+use Rattle.cjc_types.specs.Working.NameLaws.{insert_cases, insert_new, insert_old, length_within, set_insert}
+use Rattle.cjc_types.specs.Working.NameLaws.{set_union, union_left}
 use Rattle.cjc_types.specs.declared.cell.Cell.{Cell}
 use Rattle.cjc_types.specs.declared.cell.Cell.TheVariants.{Number, Refs, Unusable}
 use Rattle.cjc_types.proofs.Greater.{member_passes}
 use Rattle.cjc_types.specs.World.Classes.{Class}
+use Rattle.cjc_types.specs.World.Lookup.{object}
 use Rattle.cjc_types.specs.World.Subtype.{is_subtype}
 use Rattle.cjc_frames.specs.Acts.{Subtype}
-use Rattle.cjc_accepted_proof.specs.Frames.{card_cell, card_cells, types_named, with_type}
-use Rattle.cjc_accepted_proof.specs.Frames.{SubtypesAgree}
+use Rattle.cjc_accepted_proof.specs.Frames.{AreFew, IsCardType, SubtypesAgree, card_cell, card_cells, its_own, thrown}
+use Rattle.cjc_accepted_proof.specs.Frames.{thrown_as, types_named, with_type}
 
 -- names of which each passes
 all_in : (p : List ℕ → Bool) (xs : List (List ℕ)) → ((n : List ℕ) → In n xs → p n ≡ true) → list_all p xs ≡ true
@@ -25,30 +30,72 @@ all_in p [] h = refl
 all_in p (x ∷ xs) h = ap (λ b. b && list_all p xs) (h x (inl refl)) ∙ all_in p xs (λ n i. h n (inr i))
 
 module _ (card_type : List ℕ → Option (List ℕ)) where
+  -- ---- sets with one more type
+
+  with_cases : (o : Option (List ℕ)) (types : List (List ℕ)) (t : List ℕ) → In t (with_type o types) → (o ≡ Some t)
+      ⊎ In t types
+  with_cases None types t i = inr i
+  with_cases (Some u) types t i = ⊎_elim (λ (same : u ≡ t). inl (ap Some same)) (λ (g : In t types). inr g)
+      (insert_cases u t types i)
+
+  with_old : (o : Option (List ℕ)) (types : List (List ℕ)) (t : List ℕ) → In t types → In t (with_type o types)
+  with_old None types t i = i
+  with_old (Some u) types t i = insert_old u t types i
+
+  with_new : (o : Option (List ℕ)) (types : List (List ℕ)) (t : List ℕ) → o ≡ Some t → In t (with_type o types)
+  with_new o types t e = subst (λ (v : Option (List ℕ)). In t (with_type v types)) (sym e) (insert_new t types)
+
+  pub with_set : (o : Option (List ℕ)) (types : List (List ℕ)) → IsSet types → IsSet (with_type o types)
+  with_set None types h = h
+  with_set (Some t) types h = set_insert t types h
+
+  -- ---- types of names
+
+  thrown_is : (name : List ℕ) → name ≡ object → thrown_as card_type name ≡ card_type throwable
+  thrown_is name same = ap (λ b. if b then card_type throwable else None) (ap (λ n. bytes_eq n object) same
+      ∙ name_is object)
+
+  thrown_type : (name t : List ℕ) → thrown_as card_type name ≡ Some t → IsCardType card_type name t
+  thrown_type name t e = by (bytes_eq name object) refl e
+    where
+      by : (b : Bool) → bytes_eq name object ≡ b → (if b then card_type throwable else None) ≡ Some t
+          → IsCardType card_type name t
+      by true f g = thrown ((bytes_eq-Decides name object).0 f) g
+      by false f g = absurd cc
+
   -- a type is that of one of the names
   pub type_from : (names : List (List ℕ)) (t : List ℕ) → In t (types_named card_type names) → (name : List ℕ) × In name
-      names × (card_type name ≡ Some t)
+      names × IsCardType card_type name t
   type_from [] t h = absurd h
-  type_from (name ∷ names) t h = by (card_type name) refl h (λ g. let r = type_from names t g in (r.0, inr r.1, r.2))
-    where
-      by : (o : Option (List ℕ)) → card_type name ≡ o → In t (with_type o (types_named card_type names))
-          → (In t (types_named card_type names) → (x : List ℕ) × In x (name ∷ names) × (card_type x ≡ Some t))
-          → (x : List ℕ) × In x (name ∷ names) × (card_type x ≡ Some t)
-      by None e i later = later i
-      by (Some u) e i later = ⊎_elim (λ (same : u ≡ t). (name, inl refl, e ∙ ap Some same))
-          (λ (g : In t (types_named card_type names)). later g) (insert_cases u t (types_named card_type names) i)
+  type_from (name ∷ names) t h =
+      let rest = types_named card_type names in
+      ⊎_elim (λ (own : card_type name ≡ Some t). (name, inl refl, its_own own))
+      (λ (i : In t (with_type (thrown_as card_type name) rest)). ⊎_elim
+      (λ (other : thrown_as card_type name ≡ Some t). (name, inl refl, thrown_type name t other))
+      (λ (g : In t rest). let r = type_from names t g in (r.0, inr r.1, r.2))
+      (with_cases (thrown_as card_type name) rest t i))
+      (with_cases (card_type name) (with_type (thrown_as card_type name) rest) t h)
 
   -- and each name with a type gives it
-  pub type_in : (names : List (List ℕ)) (name t : List ℕ) → In name names → card_type name ≡ Some t → In t (types_named
-      card_type names)
+  pub type_in : (names : List (List ℕ)) (name t : List ℕ) → In name names → IsCardType card_type name t → In t
+      (types_named card_type names)
   type_in [] name t h e = absurd h
-  type_in (x ∷ names) name t (inl same) e = subst (λ (o : Option (List ℕ)). In t (with_type o (types_named card_type
-      names))) (sym (ap (card_type) same ∙ e)) (insert_new t (types_named card_type names))
-  type_in (x ∷ names) name t (inr h) e = by (card_type x) (type_in names name t h e)
+  type_in (x ∷ names) name t (inl same) (its_own e) = with_new (card_type x) (with_type (thrown_as card_type x)
+      (types_named card_type names)) t (ap card_type same ∙ e)
+  type_in (x ∷ names) name t (inl same) (thrown is e) = with_old (card_type x) (with_type (thrown_as card_type x)
+      (types_named card_type names)) t (with_new (thrown_as card_type x) (types_named card_type names) t (thrown_is x
+      (same ∙ is) ∙ e))
+  type_in (x ∷ names) name t (inr h) e = with_old (card_type x) (with_type (thrown_as card_type x) (types_named
+      card_type names)) t (with_old (thrown_as card_type x) (types_named card_type names) t (type_in names name t h e))
+
+  -- a reference of a type is one of its name
+  pub own_below : (name type : List ℕ) → card_type name ≡ Some type → IsCellBelow (Refs (type ∷ [])) (card_cell card_type
+      (Refs (name ∷ [])))
+  own_below name type e = λ n i. by n i
     where
-      by : (o : Option (List ℕ)) → In t (types_named card_type names) → In t (with_type o (types_named card_type names))
-      by None i = i
-      by (Some u) i = insert_old u t (types_named card_type names) i
+      by : (n : List ℕ) → In n (type ∷ []) → In n (types_named card_type (name ∷ []))
+      by n (inl same) = type_in (name ∷ []) name n (inl refl) (its_own (e ∙ ap Some same))
+      by n (inr none) = absurd none
 
   -- fewer names have fewer types
   within : (less names : List (List ℕ)) → IsWithin less names → IsWithin (types_named card_type less)
@@ -74,7 +121,7 @@ module _ (card_type : List ℕ → Option (List ℕ)) where
   -- ---- types that pass
 
   -- types by name that pass a test have types that pass another, where it follows
-  pub types_pass : (test p : List ℕ → Bool) → ((name t : List ℕ) → test name ≡ true → card_type name ≡ Some t
+  pub types_pass : (test p : List ℕ → Bool) → ((name t : List ℕ) → test name ≡ true → IsCardType card_type name t
       → p t ≡ true) → (x : Cell) → all_types test x ≡ true → all_types p (card_cell card_type x) ≡ true
   types_pass test p h Number e = absurd cc
   types_pass test p h Unusable e = absurd cc
@@ -95,7 +142,7 @@ module _ (card_type : List ℕ → Option (List ℕ)) where
 
   -- ---- sets of types
 
-  shorter : (n : List ℕ) (xs : List (List ℕ)) → length (insert n xs) ≤ suc (length xs)
+  pub shorter : (n : List ℕ) (xs : List (List ℕ)) → length (insert n xs) ≤ suc (length xs)
   shorter n [] = omega arith
   shorter n (x ∷ xs) = by (compare n x) (shorter n xs)
     where
@@ -105,21 +152,28 @@ module _ (card_type : List ℕ → Option (List ℕ)) where
       by Equal h = omega arith
       by Greater h = omega (arith, h)
 
-  -- the card's types of names are a set, of no more
+  -- the card's types of names are a set
   pub types_set : (names : List (List ℕ)) → IsSet (types_named card_type names)
   types_set [] = tt
-  types_set (name ∷ names) = by (card_type name) (types_set names)
-    where
-      by : (o : Option (List ℕ)) → IsSet (types_named card_type names) → IsSet (with_type o (types_named card_type
-          names))
-      by None h = h
-      by (Some t) h = set_insert t (types_named card_type names) h
+  types_set (name ∷ names) = with_set (card_type name) (with_type (thrown_as card_type name) (types_named card_type
+      names)) (with_set (thrown_as card_type name) (types_named card_type names) (types_set names))
 
-  pub types_few : (names : List (List ℕ)) → length (types_named card_type names) ≤ length names
-  types_few [] = omega arith
-  types_few (name ∷ names) = by (card_type name) (types_few names)
+  union_short : (xs ys : List (List ℕ)) → length (union xs ys) ≤ length xs + length ys
+  union_short [] ys = omega arith
+  union_short (x ∷ xs) ys =
+      let rest = union_short xs (insert x ys) in
+      let one = shorter x ys in
+      omega (arith, rest, one)
+
+  -- no more than there are types
+  pub types_few : (all : List (List ℕ)) → length all ≤ most_names → ((name t : List ℕ) → card_type name ≡ Some t
+      → In t all) → AreFew card_type
+  types_few all le each names =
+      let short = union_short all [] in
+      let fewer = length_within (types_named card_type names) (union all []) (types_set names) (set_union all [] tt)
+      (λ t i. let r = type_from names t i in union_left all [] t (among r.0 t r.2)) in
+      omega (arith, short, fewer, le)
     where
-      by : (o : Option (List ℕ)) → length (types_named card_type names) ≤ length names → length (with_type o
-          (types_named card_type names)) ≤ suc (length names)
-      by None h = omega (arith, h)
-      by (Some t) h = let more = shorter t (types_named card_type names) in omega (arith, h, more)
+      among : (name t : List ℕ) → IsCardType card_type name t → In t all
+      among name t (its_own e) = each name t e
+      among name t (thrown is e) = each throwable t e

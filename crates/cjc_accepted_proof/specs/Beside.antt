@@ -14,6 +14,7 @@ use Rattle.cjc_types.specs.Tables.{Breach, IsLeastTable, IsMethodOf}
 use Rattle.cjc_types.specs.Types.{parts, result_of}
 use Rattle.cjc_types.specs.declared.cell.Cell.TheVariants.{Number}
 use Rattle.cjc_types.specs.declared.state.State.{State}
+use Rattle.cjc_check_proof.specs.JvmSemantics.OnePackage.{method_at, method_by}
 use Rattle.cjc_check_proof.specs.NCode.Written.{Resolution, catches_at, narrow_code, place_in, reached}
 use Rattle.cjc_check_proof.specs.NCode.declared.narrow.NInsn.{NInsn}
 use Rattle.cjc_verify.specs.CardActs.CardTypes.{ValueType}
@@ -84,6 +85,7 @@ module _ (p : Package) (m : Beside) where
   pub record IsBeside (codes : List MethodCode) : Type 0 where
     pub number : ℕ
     pub is_laid : slice_get p.methods number ≡ Some m.laid
+    pub named : (let laid = m.laid in method_at p.files laid.member) ≡ Some (method_by m.class m.method (Some m.tree))
     pub is_method : IsMethodOf p.files m.code m.class m.method m.tree
     pub listed : Contains codes m.code
     pub some : (let tree = m.tree in 0 < length tree.bytes)

@@ -20,7 +20,7 @@ use Rattle.cjc_verify.specs.Components.Names.{names}
 use Rattle.cjc_verify.specs.Components.Package.{Package, world}
 use Rattle.cjc_accepted_proof.specs.Beside.{Beside, body_by_name, names_in}
 use Rattle.cjc_accepted_proof.specs.Coded.{card_type, is_of}
-use Rattle.cjc_accepted_proof.specs.Frames.{card_cells}
+use Rattle.cjc_accepted_proof.specs.Frames.{IsCaughtAs, card_cells}
 use Rattle.cjc_accepted_proof.specs.Served.{IsServed, IsServedIn}
 use Rattle.cjc_accepted_proof.specs.Written.{written_pair}
 
@@ -28,7 +28,7 @@ module _ (p : Package) (m : Beside) where
   -- Each handler that is laid catches by its index the card's type of the class that its class file's names.
   abbrev pub CatchesAreNamed : Type 0
   CatchesAreNamed = (c : NCatch) → (let laid = m.laid in let code = laid.code in Contains code.catches c)
-      → caught_type (written_pair p) (class_index (names p) c.class) ≡ card_type p (type_by_name c.class)
+      → IsCaughtAs (card_type p) (caught_type (written_pair p) (class_index (names p) c.class)) (type_by_name c.class)
 
   -- What its reached instructions name is served.
   pub record IsServedAll : Type 0 where

@@ -3,6 +3,7 @@
 use Rattle.std.specs.Prelude.{◌≡◌, ◌≤◌, ℕ, true, false, List, [], ◌∷◌, length, map, Option, Some, None, Bool, is_some}
 use Rattle.std.specs.Prelude.{if◌then◌else◌, option_and_then}
 use Rattle.std.specs.List.{AllZip}
+use Rattle.std.specs.Str.{bytes_eq}
 use Rattle.cjc_types.specs.Bytes.Descriptor.{Part}
 use Rattle.cjc_types.specs.Bytes.declared.descriptor.Kind.{Kind}
 use Rattle.cjc_types.specs.Bytes.declared.descriptor.Kind.TheVariants as kinds
@@ -11,11 +12,11 @@ use Rattle.cjc_verify.specs.CapRead.declared.tree.ClassRef.{ClassRef}
 use Rattle.cjc_verify.specs.CardActs.CardTypes.{Boolean, Byte, MemberType, Reference, Short, ValueType, Void}
 use Rattle.cjc_verify.specs.CardActs.CardTypes.{is_moved_by}
 use Rattle.cjc_verify.specs.CardSemantics.Bytecode.Effects.{Letter}
-use Rattle.cjc_types.specs.Rules.{all_types}
+use Rattle.cjc_types.specs.Rules.{all_types, throwable}
 use Rattle.cjc_types.specs.Types.{is_void, parts}
 use Rattle.cjc_verify.specs.ClassTypes.{class_type}
 use Rattle.cjc_verify.specs.Named.{is_outside}
-use Rattle.cjc_types.specs.Cells.{IsCellBelow}
+use Rattle.cjc_types.specs.Cells.{IsCellBelow, most_names}
 use Rattle.cjc_types.specs.Names.{insert}
 use Rattle.cjc_types.specs.States.{states}
 use Rattle.cjc_types.specs.Steps.{gives, locals_after, stack_behind as behind_by_name, takes}
@@ -30,6 +31,7 @@ use Rattle.cjc_frames.specs.Acts.{stack_behind, with_writes}
 use Rattle.cjc_types.specs.Bytecode.declared.insn.JOp.{JOp}
 use Rattle.cjc_verify.specs.Script.Sorts.{OfClass, OfNumbers, OfReferences, Shape, shape_named}
 use Rattle.cjc_types.specs.World.Classes.{Class, class_named}
+use Rattle.cjc_types.specs.World.Lookup.{object}
 use Rattle.cjc_types.specs.World.Subtype.{is_subtype}
 use Rattle.cjc_verify.specs.Narrow.Pairs.Open.{Open, closed, begun, pushed}
 use Rattle.cjc_verify.specs.Components.Types.{shape_nibbles}
@@ -57,14 +59,37 @@ type_named w ref name = option_and_then (nibbles_there w ref) (shape_named name)
 
 -- where types by name have these types on the card
 module _ (card_type : List ℕ → Option (List ℕ)) where
+  -- A handler of java/lang/Object is one of any exception on the card: what it takes is a java/lang/Throwable there.
+  abbrev pub thrown_as : (name : List ℕ) → Option (List ℕ)
+  thrown_as name = if bytes_eq name object then card_type throwable else None
+
   -- those of these names, as a set
   abbrev pub types_named : List (List ℕ) → List (List ℕ)
   types_named [] = []
-  types_named (name ∷ names) = with_type (card_type name) (types_named names)
+  types_named (name ∷ names) = with_type (card_type name) (with_type (thrown_as name) (types_named names))
+
+  -- what a reference of this name may be of on the card
+  pub data IsCardType (name type : List ℕ) : Type 0 where
+    its_own : card_type name ≡ Some type → IsCardType name type
+    thrown : name ≡ object → card_type throwable ≡ Some type → IsCardType name type
+
+  -- types are no more than a cell may have
+  abbrev pub AreFew : Type 0
+  AreFew = (names : List (List ℕ)) → length (types_named names) ≤ most_names
+
+  -- what a handler takes, of one that takes this class in the class file
+  pub data IsCaughtAs (caught : Option (List ℕ)) (class : List ℕ) : Type 0 where
+    by_name : caught ≡ card_type class → IsCaughtAs caught class
+    by_any : class ≡ object → caught ≡ card_type throwable → IsCaughtAs caught class
 
   -- a subtype by name is one by token, where both have types there
+  abbrev pub NamesAgree : Subtype → List Class → Type 0
+  NamesAgree is_of w = (sub sup t u : List ℕ) → is_subtype w sub sup ≡ true → card_type sub ≡ Some t
+      → card_type sup ≡ Some u → is_of t u ≡ true
+
+  -- so is all that a reference of the subtype may be of
   abbrev pub SubtypesAgree : Subtype → List Class → Type 0
-  SubtypesAgree is_of w = (sub sup t u : List ℕ) → is_subtype w sub sup ≡ true → card_type sub ≡ Some t
+  SubtypesAgree is_of w = (sub sup t u : List ℕ) → is_subtype w sub sup ≡ true → IsCardType sub t
       → card_type sup ≡ Some u → is_of t u ≡ true
 
   -- ---- cells

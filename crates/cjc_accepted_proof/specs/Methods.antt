@@ -20,7 +20,7 @@ use Rattle.cjc_frames.specs.Flow.{Body, covers, entry}
 use Rattle.cjc_frames.specs.declared.acts.Catch.{Catch}
 use Rattle.cjc_frames.specs.declared.acts.Step.{Step}
 use Rattle.cjc_accepted_proof.specs.Blocks.{AllStand, Block, goes_on}
-use Rattle.cjc_accepted_proof.specs.Frames.{card_cells, card_stack, card_state}
+use Rattle.cjc_accepted_proof.specs.Frames.{AreFew, IsCaughtAs, card_cells, card_stack, card_state}
 
 -- instructions as steps, from a label on
 abbrev pub steps_from : (step : (label : ℕ) → NInsn → Step) → (label : ℕ) → List NInsn → List Step
@@ -85,11 +85,12 @@ module _ (card_type : List ℕ → Option (List ℕ)) (is_of : Subtype) (r : Res
     pub catch : CatchByName
     pub listed : Contains b.catches catch
     pub covers : covers_by_name catch i.at ≡ true
-    pub caught : c.caught ≡ card_type (caught_type catch.class)
+    pub caught : IsCaughtAs card_type c.caught (caught_type catch.class)
     pub target : c.target ≡ to (label catch.target)
 
   -- The method of the card is written for that of the class file.
   pub record IsWrittenFor (m : Body) (to : ℕ → ℕ) : Type 0 where
+    pub few : AreFew card_type
     pub steps : m.steps ≡ steps_from step 0 (narrow_code r (reached b.insns rows))
     pub at : (k : ℕ) (insn : NInsn) → (let s = step k insn in s.at) ≡ to k
     pub ascends : (j k : ℕ) → j < k → k ≤ length m.steps → to j < to k

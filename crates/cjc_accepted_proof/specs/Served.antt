@@ -33,7 +33,7 @@ use Rattle.cjc_verify.specs.Pairs.{Pair}
 use Rattle.cjc_verify.specs.Script.Sorts.{Boolean, Byte, Element, Int, OfClass, OfNumbers, OfReferences, Short, Sort}
 use Rattle.cjc_verify.specs.Script.Sorts.{field_sort, shape_named}
 use Rattle.cjc_accepted_proof.specs.Elements.{ArraysAgree}
-use Rattle.cjc_accepted_proof.specs.Frames.{FieldFits, IsTypeFor, MethodFits, PassesFor, SubtypesAgree}
+use Rattle.cjc_accepted_proof.specs.Frames.{AreFew, FieldFits, IsTypeFor, MethodFits, PassesFor, SubtypesAgree}
 use Rattle.cjc_accepted_proof.specs.Members.{StaticFits}
 
 -- the letter of the instructions that move values of a type
@@ -136,6 +136,7 @@ module _ (card_type : List ℕ → Option (List ℕ)) (is_of : Subtype) (w : Lis
     -- What holds in all code of b, in a method of the card with a result of this type.
     pub record IsServedIn (result : ValueType) : Type 0 where
       pub subtypes : SubtypesAgree card_type is_of w
+      pub few : AreFew card_type
       pub arrays : ArraysAgree card_type
       pub returned : (let d = parts b.desc in let v = d.result in IsTypeFor card_type v.kind v.class result)
       pub exceptions : throwable p ≡ card_type throwable_by_name

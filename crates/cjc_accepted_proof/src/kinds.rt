@@ -20,7 +20,8 @@ ghost use Rattle.cjc_verify.specs.CardSemantics.Bytecode.Effects.{Letter};
 ghost use Rattle.cjc_verify.specs.Narrow.Pairs.Open.{Open, closed};
 ghost use Rattle.cjc_verify.specs.Instructions.{calling, calling_on, getting};
 ghost use Rattle.cjc_types.specs.World.Classes.{Class};
-ghost use Rattle.cjc_accepted_proof.specs.Frames.{FieldFits, MethodFits, Mirrors, PassesFor, SubtypesAgree, card_state};
+ghost use Rattle.cjc_accepted_proof.specs.Frames.{FieldFits, IsCaughtAs, MethodFits, Mirrors, PassesFor, SubtypesAgree};
+ghost use Rattle.cjc_accepted_proof.specs.Frames.{card_state};
 
 /// A getfield is mirrored where its entry fits the field that it names.
 pub fn field_reads_are_mirrored()
@@ -49,10 +50,10 @@ pub fn calls_are_mirrored()
 {}
 
 /// What an instruction hands to a handler lies below what it hands to the handler of the class file, where the one
-/// catches the card's type of the class that the other catches.
+/// catches the card's type of the class that the other catches, or any exception where that is java/lang/Object.
 pub fn exceptions_are_mirrored()
     ensures { (card_type : List ℕ → Option (List ℕ)) (o : Open) (count : ℕ) (c : Catch) (j : CatchByName)
-        → c.caught ≡ card_type (caught_type j.class) → (x : State)
+        → IsCaughtAs card_type c.caught (caught_type j.class) → (x : State)
         → (let s = states count in s.Below (caught c (card_state card_type o x)) (card_state card_type closed
         (caught_by_name j x))) }
 {}

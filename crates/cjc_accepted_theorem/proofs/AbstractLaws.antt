@@ -1,10 +1,10 @@
 -- No class of which objects are made has an abstract method for one of its tokens.
 use Rattle.cjc_theorem.proofs.ShapeProofOfFiles.{is_of_files}
-use Rattle.std.proofs.Common.{◌≡◌, ◌⊎◌, ⊎_elim, inl, inr, ℕ, zero, suc, ◌+◌, ◌-◌, ◌<◌, ◌≤◌, ◌==◌, refl, sym, ap, subst}
+use Rattle.std.proofs.Common.{◌≡◌, ◌⊎◌, ⊎_elim, inl, inr, ℕ, zero, suc, ◌+◌, ◌-◌, ◌≤◌, ◌==◌, refl, sym, ap, subst}
 use Rattle.std.proofs.Common.{◌∙◌, arith, Bool, true, false, List, [], ◌∷◌, ◌++◌, drop, length, map, nat_lt}
 use Rattle.std.specs.Prelude.{◌&&◌, ◌||◌, not, cond, Option, Some, None, if◌then◌else◌, option_and_then, option_map}
 use Rattle.std.specs.Prelude.{option_to_list, slice_get}
-use Rattle.std.specs.List.{find, list_any, range_with_len}
+use Rattle.std.specs.List.{find}
 use Rattle.std.proofs.lemmas.Bool.Decides.{nat_tests}
 use Rattle.cjc_verified_proof.specs.Bytes.AccessFlags.{is_abstract, is_interface, is_static}
 use Rattle.cjc_verified_proof.proofs.BytesBools.{and_true, clash}
@@ -14,13 +14,13 @@ use Rattle.cjc_verified_proof.proofs.BytesPlain.{same_some}
 use Rattle.cjc_verified_proof.proofs.DescribedLaws.{either_part}
 use Rattle.cjc_verified_proof.proofs.HoldsLaws.{Holds, hidden_holds, implementing_holds}
 use Rattle.cjc_verified_proof.specs.CardSemantics.Bytecode.Machine.{Start}
-use Rattle.cjc_verified_proof.specs.CardSemantics.Machine.Classes.{External, depth, external, or_else}
-use Rattle.cjc_verified_proof.specs.CardSemantics.Machine.Dispatch.{At, Exported, NotFound, Outward, Selection, Table}
+use Rattle.cjc_verified_proof.specs.CardSemantics.Machine.Classes.{External, depth, or_else}
+use Rattle.cjc_verified_proof.specs.CardSemantics.Machine.Dispatch.{At, NotFound, Outward, Selection}
 use Rattle.cjc_verified_proof.specs.CardSemantics.Machine.Dispatch.{at_table, dispatched_hidden, dispatched_open}
 use Rattle.cjc_verified_proof.specs.CardSemantics.Machine.Dispatch.{dispatched_outward, exported_line, held, in_files}
 use Rattle.cjc_verified_proof.specs.CardSemantics.Machine.Dispatch.{outward, tower, tower_from}
 use Rattle.cjc_verified_proof.specs.CardSemantics.Machine.Methods.{Code, start_of}
-use Rattle.cjc_verified_proof.specs.Components.Descriptor.{as_added, method_in, methods_with_added}
+use Rattle.cjc_verified_proof.specs.Components.Descriptor.{as_added, method_in}
 use Rattle.cjc_verified_proof.specs.Components.Methods.{method_offset}
 use Rattle.cjc_verified_proof.specs.Components.Package.{Package, world}
 use Rattle.cjc_verified_proof.specs.ExportFile.declared.tree.ExportClass.{ExportClass}
@@ -28,17 +28,16 @@ use Rattle.cjc_verified_proof.specs.ExportFile.declared.tree.ExportMethod.{Expor
 use Rattle.cjc_verified_proof.specs.JvmSemantics.OnePackage.{ResolvedMember, method_hit}
 use Rattle.cjc_verified_proof.specs.List.Listed.{ListTree}
 use Rattle.cjc_verified_proof.specs.NCode.Lowering.Naming.{Naming}
-use Rattle.cjc_verified_proof.specs.TokenProof.Calls.Dispatching.{DispatchAgrees, SaysFile, SaysTower, event, of_file}
-use Rattle.cjc_verified_proof.specs.TokenProof.Calls.Dispatching.{of_package, selection_of, table_entry}
+use Rattle.cjc_verified_proof.specs.TokenProof.Calls.Dispatching.{DispatchAgrees, SaysTower, event, of_file}
+use Rattle.cjc_verified_proof.specs.TokenProof.Calls.Dispatching.{of_package, table_entry}
 use Rattle.cjc_verified_proof.specs.TokenProof.Tables.Loading.{loaded, naming}
 use Rattle.cjc_verified_proof.specs.TokenProof.WrittenCalls.Calls.{KeepsTokens}
 use Rattle.cjc_verified_proof.specs.TokenProof.Tables.Sound.{IsSound}
 use Rattle.cjc_verified_proof.specs.Verify.Named.{first_of, is_abstract_selection, is_abstract_start}
 use Rattle.cjc_verified_proof.specs.Verify.Pairs.{Pair}
 use Rattle.cjc_verified_proof.specs.World.Added.{added}
-use Rattle.cjc_verified_proof.specs.World.Classes.{Class, Member, class_at, class_named, imported, method_of_export}
-use Rattle.cjc_verified_proof.specs.World.Lookup.{first, member_at}
-use Rattle.cjc_verified_proof.specs.World.Order.{class_order, methods_of_class}
+use Rattle.cjc_verified_proof.specs.World.Classes.{Class, Member, class_named, method_of_export}
+use Rattle.cjc_verified_proof.specs.World.Order.{methods_of_class}
 use Rattle.cjc_verified_proof.specs.World.Supertypes.{Lists, foremost, supertypes}
 use Rattle.cjc_verified_proof.specs.World.Supertypes as supertype_trees
 use Rattle.cjc_verified_proof.specs.World.declared.found.Found.{Found}
@@ -47,7 +46,6 @@ use Rattle.cjc_theorem.specs.LowerJudge.declared.judged.Judged.{Judged}
 use Rattle.cjc_theorem.specs.ShapeProof.Written.Converted.{IsConverted}
 use Rattle.cjc_theorem.proofs.AlikeLaws.VirtualCalls.Lines.{hidden_found}
 use Rattle.cjc_theorem.proofs.AlikeLaws.VirtualCalls.Objects.{own_kinds}
-use Rattle.cjc_theorem.proofs.VTableFiled.{Has}
 use Rattle.cjc_verified_proof.proofs.WorldCycles.{class_named-name}
 use Rattle.cjc_verified_proof.specs.ExportFile.Supers.{virtual_method}
 use Rattle.cjc_verified_proof.specs.ExportFile.Supers as exports
@@ -62,7 +60,7 @@ use Rattle.cjc_verified_proof.proofs.TokensHeld.{here-has_slot, token-slot}
 use Rattle.cjc_verified_proof.proofs.TokensWalks.{supertypes-known}
 use Rattle.cjc_theorem.specs.VTable.Calls.{any_method, is_special}
 use Rattle.cjc_verified_proof.proofs.TokensFacts.{chosen-passes}
-use Rattle.cjc_theorem.specs.VTable.Dispatch.{own_by_token, tower_in, tower_of}
+use Rattle.cjc_theorem.specs.VTable.Dispatch.{tower_in, tower_of}
 use Rattle.cjc_theorem.specs.VTable.Dispatch as tables
 use Rattle.cjc_theorem.specs.VTable.Kept.{Keeps}
 use Rattle.cjc_theorem.specs.VTable.Laws.{ImportedCallsAgree, Under, below, itself, selection}
@@ -226,14 +224,14 @@ module _ (p : Package) (facts : Facts p) where
 
   -- ---- the imported class below
 
-  record Foot (x z : List ℕ) : Type 0 where
-    class : Class
-    known : class_named w z ≡ Some class
-    import : class.is_imported ≡ true
-    plain : is_interface class.flags ≡ false
-    under : Under w x z
+  pub record Foot (x z : List ℕ) : Type 0 where
+    pub class : Class
+    pub known : class_named w z ≡ Some class
+    pub import : class.is_imported ≡ true
+    pub plain : is_interface class.flags ≡ false
+    pub under : Under w x z
 
-  foot_of : {h : ℕ} {x z : List ℕ} → SaysTower w n (method_offset p) h x z → (c : Class) → class_named w x ≡ Some c
+  pub foot_of : {h : ℕ} {x z : List ℕ} → SaysTower w n (method_offset p) h x z → (c : Class) → class_named w x ≡ Some c
       → is_interface c.flags ≡ false → Foot x z
   foot_of (of_file k known import says) c e plain = record {
     class = k;
@@ -416,6 +414,61 @@ module _ (p : Package) (facts : Facts p) where
           at None g = refl
           at (Some v) g = absurd (none v g (grind (arith, nat_tests, low)))
 
+-- ---- what begins with code
+
+module _ (p : Package) (facts : Facts p)
+    (begun : (d : Class) → class_named (world p) d.name ≡ Some d → d.is_imported ≡ false → is_interface d.flags ≡ false
+    → (j : ℕ) (f : Found) → slice_get (methods_of_class (world p) d) j ≡ Some f → (s : Start Code)
+    × (start_of (loaded p) 0 (method_offset p f) ≡ Some s) × (s.is_abstract ≡ true → (let m = method_in (world p) d
+    f.member in is_abstract m.flags ≡ true))) where
+  abbrev pub IsConcrete : Found → Type 0
+  IsConcrete f = (hit : ResolvedMember) × (method_hit (world p) f ≡ Some hit) × (is_abstract hit.flags ≡ false)
+
+  -- a method of the package that selection takes begins with code
+  pub begins_whole : (x : List ℕ) (s : Signature) (f : Found) → Holds p facts x s f → IsConcrete f
+      → is_abstract_selection (written_pair p) (At 0 (method_offset p f)) ≡ false
+  begins_whole x s f held hit =
+      let d = held.class in
+      let b = begun d held.known held.own held.plain held.number f held.listed in
+      ap is_abstract_start b.1 ∙ by (let y = b.0 in y.is_abstract) refl (λ a. b.2 a) (slice_get d.methods held.place)
+      refl
+    where
+      told : method_hit (world p) f ≡ option_map (λ (m : Member). record { owner = held.class; flags = m.flags })
+          (slice_get (let d = held.class in d.methods) held.place)
+      told =
+          let d = held.class in
+          let left : length d.fields + held.place - length d.fields ≡ held.place = omega arith in
+          ap (method_hit (world p)) held.is
+          ∙ ap (option_and_then (λ (k : Class). option_map (λ (m : Member). record { owner = k; flags = m.flags })
+          (slice_get k.methods (length d.fields + held.place - length k.fields)))) (facts.placed d.name d held.known)
+          ∙ ap (λ i. option_map (λ (m : Member). record { owner = d; flags = m.flags }) (slice_get d.methods i)) left
+
+      by : (b : Bool) → (let d = held.class in let b = begun d held.known held.own held.plain held.number f
+          held.listed
+          in let y = b.0 in y.is_abstract) ≡ b → ((let d = held.class in let b = begun d held.known held.own
+          held.plain
+          held.number f held.listed in let y = b.0 in y.is_abstract) ≡ true → (let m = method_in (world p) held.class
+          f.member in is_abstract m.flags ≡ true)) → (o : Option Member) → slice_get (let d = held.class in d.methods)
+          held.place
+          ≡ o → (let d = held.class in let b = begun d held.known held.own held.plain held.number f held.listed
+          in let y = b.0 in y.is_abstract) ≡ false
+      by false g bare o h = g
+      by true g bare None h =
+          let none : None ≡ Some hit.0 = sym (told ∙ ap (option_map (λ (m : Member). record {
+            owner = held.class;
+            flags = m.flags;
+          })) h) ∙ hit.1 in
+          absurd cc
+      by true g bare (Some m) h =
+          let d = held.class in
+          let flags : Some (record { owner = d; flags = m.flags }) ≡ Some hit.0 =
+          sym (told ∙ ap (option_map (λ (y : Member). record { owner = d; flags = y.flags })) h) ∙ hit.1 in
+          let same : method_in (world p) d f.member ≡ m =
+          ap (λ (y : Found). method_in (world p) d y.member) held.is ∙ member_is (world p) d held.place m (in_front
+          d.methods (map as_added (added (world p) d)) held.place m h) in
+          clash (is_abstract m.flags) (ap (λ (y : Member). is_abstract y.flags) (sym same) ∙ bare g)
+          (ap (λ (y : ResolvedMember). is_abstract y.flags) (same_some flags) ∙ hit.2)
+
 -- ---- a class of which objects are made
 
 module _ (list : ListTree) (files : List (List ℕ)) (judged : Judged) (p : Package) (is : IsConverted list files judged
@@ -435,55 +488,8 @@ module _ (list : ListTree) (files : List (List ℕ)) (judged : Judged) (p : Pack
 
   module _ (x : List ℕ) (c : Class) (e : class_named (world p) x ≡ Some c) (own : c.is_imported ≡ false)
       (plain : is_interface c.flags ≡ false) (made : is_abstract c.flags ≡ false) where
-    abbrev IsConcrete : Found → Type 0
-    IsConcrete f = (hit : ResolvedMember) × (method_hit v f ≡ Some hit) × (is_abstract hit.flags ≡ false)
-
-    -- a method of the package that selection takes begins with code
-    begins_whole : (s : Signature) (f : Found) → Holds p facts x s f → IsConcrete f → is_abstract_selection q (At 0
-        (method_offset p f)) ≡ false
-    begins_whole s f held hit =
-        let d = held.class in
-        let b = begun d held.known held.own held.plain held.number f held.listed in
-        ap is_abstract_start b.1 ∙ by (let y = b.0 in y.is_abstract) refl (λ a. b.2 a) (slice_get d.methods held.place)
-        refl
-      where
-        told : method_hit v f ≡ option_map (λ (m : Member). record { owner = held.class; flags = m.flags }) (slice_get
-            (let d = held.class in d.methods) held.place)
-        told =
-            let d = held.class in
-            let left : length d.fields + held.place - length d.fields ≡ held.place = omega arith in
-            ap (method_hit v) held.is
-            ∙ ap (option_and_then (λ (k : Class). option_map (λ (m : Member). record { owner = k; flags = m.flags })
-            (slice_get k.methods (length d.fields + held.place - length k.fields)))) (facts.placed d.name d held.known)
-            ∙ ap (λ i. option_map (λ (m : Member). record { owner = d; flags = m.flags }) (slice_get d.methods i)) left
-
-        by : (b : Bool) → (let d = held.class in let b = begun d held.known held.own held.plain held.number f
-            held.listed
-            in let y = b.0 in y.is_abstract) ≡ b → ((let d = held.class in let b = begun d held.known held.own
-            held.plain
-            held.number f held.listed in let y = b.0 in y.is_abstract) ≡ true → (let m = method_in v held.class f.member
-            in is_abstract m.flags ≡ true)) → (o : Option Member) → slice_get (let d = held.class in d.methods)
-            held.place
-            ≡ o → (let d = held.class in let b = begun d held.known held.own held.plain held.number f held.listed
-            in let y = b.0 in y.is_abstract) ≡ false
-        by false g bare o h = g
-        by true g bare None h =
-            let none : None ≡ Some hit.0 = sym (told ∙ ap (option_map (λ (m : Member). record {
-              owner = held.class;
-              flags = m.flags;
-            })) h) ∙ hit.1 in
-            absurd cc
-        by true g bare (Some m) h =
-            let d = held.class in
-            let flags : Some (record { owner = d; flags = m.flags }) ≡ Some hit.0 =
-            sym (told ∙ ap (option_map (λ (y : Member). record { owner = d; flags = y.flags })) h) ∙ hit.1 in
-            let same : method_in v d f.member ≡ m =
-            ap (λ (y : Found). method_in v d y.member) held.is ∙ member_is v d held.place m (in_front d.methods (map
-            as_added (added v d)) held.place m h) in
-            clash (is_abstract m.flags) (ap (λ (y : Member). is_abstract y.flags) (sym same) ∙ bare g)
-            (ap (λ (y : ResolvedMember). is_abstract y.flags) (same_some flags) ∙ hit.2)
-
-    whole : (s : Signature) → is_special s ≡ false → (f : Found) → selection v x s ≡ Some f → IsConcrete f
+    whole : (s : Signature) → is_special s ≡ false → (f : Found) → selection v x s ≡ Some f → IsConcrete p facts begun
+        f
     whole s flat = selected_whole list files judged p is facts keeps solid x c e own plain made s (second
         (is_constructor s.name) (is_initialiser s.name) flat)
       where
@@ -546,7 +552,8 @@ module _ (list : ListTree) (files : List (List ℕ)) (judged : Judged) (p : Pack
             (method_offset p f)) ≡ false
         by f near flat sel true import = outward_fine s flat (λ h j. ap (λ (y : Found). y.imported) (same_some (sym j
             ∙ sel)) ∙ import)
-        by f near flat sel false mine = begins_whole s f (implementing_holds p facts x c e plain s f near mine)
+        by f near flat sel false mine = begins_whole p facts begun x s f (implementing_holds p facts x c e plain s
+            f near mine)
             (whole s flat f sel)
 
     free : (t : ℕ) → ((s : Signature) → slice_get (slots (line_of v x)) t ≡ Some (Some s) → ⊥) → IsFree p facts t x
@@ -673,7 +680,7 @@ module _ (list : ListTree) (files : List (List ℕ)) (judged : Judged) (p : Pack
         source.hidden_one) in
         ap (is_abstract_selection q) (says.package_method t f s m.by_token
         ∙ ap (λ b. if b then Outward (event stands.foot s) else At 0 (method_offset p f)) m.own)
-        ∙ begins_whole s f (hidden_holds p facts x c e plain s f m.nearest) (whole s flat f sel)
+        ∙ begins_whole p facts begun x s f (hidden_holds p facts x c e plain s f m.nearest) (whole s flat f sel)
 
     pub hidden_fine : (t : ℕ) → is_abstract_selection q (dispatched_hidden (tower (loaded p) (let n = naming p
         in n.class x)) 0 t) ≡ false

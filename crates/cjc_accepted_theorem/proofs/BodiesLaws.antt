@@ -11,7 +11,7 @@ use Rattle.cjc_verified_proof.specs.CapRead.declared.tree.MethodDescriptor.{Meth
 use Rattle.cjc_verified_proof.specs.CardSemantics.Machine.Methods.{methods_begin}
 use Rattle.cjc_verified_proof.specs.CheckRules.Codes.{Code, codes, whole_spots}
 use Rattle.cjc_verified_proof.specs.Components.Descriptor.{class_descriptor}
-use Rattle.cjc_verified_proof.specs.Components.Methods.{first_method, header_of, in_table_order, placed_at}
+use Rattle.cjc_verified_proof.specs.Components.Methods.{first_method, header_of, placed_at}
 use Rattle.cjc_verified_proof.specs.Components.Methods.{placed_methods}
 use Rattle.cjc_verified_proof.specs.Components.Names.{names}
 use Rattle.cjc_verified_proof.specs.Components.Package.{LaidMethod, Package, world}

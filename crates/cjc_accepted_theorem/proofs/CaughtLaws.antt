@@ -1,6 +1,6 @@
 -- The handlers of a converted package: each catches by its index the card's type of the class that its class file's
--- names, where that is not java/lang/Object.
-use Rattle.std.proofs.Common.{◌≡◌, ℕ, suc, refl, sym, ap, ◌∙◌, arith, Bool, true, false, List}
+-- names, or any exception where that is java/lang/Object.
+use Rattle.std.proofs.Common.{◌≡◌, ℕ, zero, suc, refl, sym, ap, ◌∙◌, arith, Bool, true, false, List}
 use Rattle.std.proofs.lemmas.Bool.Decides.{nat_tests}
 use Rattle.std.specs.Prelude.{◌==◌, Option, Some, None, option_map, slice_get, if◌then◌else◌}
 use Rattle.std.specs.List.{Contains}
@@ -16,6 +16,7 @@ use Rattle.cjc_ncode.specs.declared.narrow.NCatch.{NCatch}
 use Rattle.cjc_ncode.specs.declared.narrow.PoolKey.TheVariants as keys
 use Rattle.cjc_narrow_proof.proofs.LawsLaws.Handlers.{caught_there, class_there}
 use Rattle.cjc_check_proof.specs.Types.Flow.{caught_type as type_by_name}
+use Rattle.cjc_check_proof.specs.Types.Rules.{throwable as throwable_by_name}
 use Rattle.cjc_verify.specs.Bodies.{caught_type}
 use Rattle.cjc_verify.specs.ClassTypes.{class_type}
 use Rattle.cjc_verify.specs.Instructions.{class_in, throwable}
@@ -25,7 +26,9 @@ use Rattle.cjc_verified_proof.specs.TokenProof.Tables.Loading.{naming}
 use Rattle.cjc_verified_proof.specs.Verify.Named.{entry_of}
 use Rattle.cjc_verified_proof.specs.Verify.Pairs.{Pair}
 use Rattle.cjc_accepted_proof.specs.Beside.{Beside, IsBeside}
+use Rattle.cjc_accepted_proof.specs.Checked.{CatchesAreNamed}
 use Rattle.cjc_accepted_proof.specs.Coded.{card_type}
+use Rattle.cjc_accepted_proof.specs.Frames.{IsCaughtAs, by_any, by_name}
 use Rattle.cjc_accepted_proof.specs.Written.{written_pair}
 use Rattle.cjc_theorem.proofs.AlikeLaws.NamedLaws.Catches.{behind_first}
 use Rattle.cjc_theorem.proofs.AlikeLaws.NamedLaws.Means.{catch_held}
@@ -53,35 +56,48 @@ module _ (list : ListTree) (files : List (List ℕ)) (judged : Judged) (p : Pack
       ∙ (ap (λ o. option_map class_type (class_in o)) holds.there
       ∙ sym (class_typed list files judged p is name c known)))
 
+  -- any exception
+  any_caught : caught_type q 0 ≡ card_type p throwable_by_name
+  any_caught = thrown list.name p (files_sound list files judged p is)
+
   module _ (k : ℕ) (m : LaidMethod) (e : slice_get p.methods k ≡ Some m) (c : NCatch)
-      (on : (let code = m.code in Contains code.catches c)) (apart : c.class ≡ Some object → ⊥) where
-    -- its handlers catch so
-    pub caught_so : caught_type q (class_index (names p) c.class) ≡ card_type p (type_by_name c.class)
+      (on : (let code = m.code in Contains code.catches c)) where
+    -- its handlers catch so; entry 0 is that of java/lang/Object
+    pub caught_so : IsCaughtAs (card_type p) (caught_type q (class_index (names p) c.class)) (type_by_name c.class)
     caught_so = by c.class refl
       where
         place : (j : ℕ) × (slice_get (let code = m.code in code.catches) j ≡ Some c)
         place = contains_at (let code = m.code in code.catches) c on
 
-        by_name : (name : List ℕ) → c.class ≡ Some name → (b : Bool) → bytes_eq name object ≡ b
-            → caught_type q (class_index (names p) (Some name)) ≡ card_type p name
-        by_name name g true same = absurd (apart (g ∙ ap Some ((bytes_eq-Decides name object).0 same)))
-        by_name name g false other =
+        held : (name : List ℕ) → c.class ≡ Some name → Holds (naming p) (keys.Class name)
+        held name g = catch_held p k m e place.0 c place.1 name g
+
+        known : (name : List ℕ) → c.class ≡ Some name → (d : Class) × (class_named (world p) name ≡ Some d)
+        known name g =
             let u = own_unbroken list files judged p is in
             let s = has_catch list judged.codes p (is_of_files list files judged p is) k m e place.0 c place.1 in
-            let h = s.handler in
             let at = class_there (world p) name (caught_there p.files judged.codes u.names s.code s.class s.method
-            s.tree s.of s.listed h name s.there (s.same ∙ g)) in
-            let index = behind_first p k m e place.0 c place.1 name g other in
-            one_caught name index.0 at.0 index.1 (catch_held p k m e place.0 c place.1 name g) at.1
+            s.tree s.of s.listed s.handler name s.there (s.same ∙ g)) in
+            (at.0, at.1)
 
-        by : (o : Option (List ℕ)) → c.class ≡ o → caught_type q (class_index (names p) o)
-            ≡ card_type p (type_by_name o)
-        by None g = thrown list.name p (files_sound list files judged p is)
-        by (Some name) g = by_name name g (bytes_eq name object) refl
+        by_name_of : (name : List ℕ) → c.class ≡ Some name → (b : Bool) → bytes_eq name object ≡ b
+            → IsCaughtAs (card_type p) (caught_type q (class_index (names p) (Some name))) name
+        by_name_of name g true same = by_index (let n = names p in n.index (keys.Class name)) refl
+          where
+            by_index : (i : ℕ) → (let n = names p in n.index (keys.Class name)) ≡ i
+                → IsCaughtAs (card_type p) (caught_type q (class_index (names p) (Some name))) name
+            by_index zero index = by_any ((bytes_eq-Decides name object).0 same) (ap (caught_type q) index ∙ any_caught)
+            by_index (suc i) index = let d = known name g in by_name (one_caught name i d.0 index (held name g) d.1)
+        by_name_of name g false other =
+            let d = known name g in
+            let index = behind_first p k m e place.0 c place.1 name g other in
+            by_name (one_caught name index.0 d.0 index.1 (held name g) d.1)
+
+        by : (o : Option (List ℕ)) → c.class ≡ o → IsCaughtAs (card_type p) (caught_type q (class_index (names p) o))
+            (type_by_name o)
+        by None g = by_name any_caught
+        by (Some name) g = by_name_of name g (bytes_eq name object) refl
 
   -- So the handlers of each method do that is written for one of a class file.
-  pub catches_named : (m : Beside) → IsBeside p m judged.codes → ((c : NCatch) → (let laid = m.laid
-      in let code = laid.code in Contains code.catches c) → c.class ≡ Some object → ⊥) → (c : NCatch)
-      → (let laid = m.laid in let code = laid.code in Contains code.catches c)
-      → caught_type q (class_index (names p) c.class) ≡ card_type p (type_by_name c.class)
-  catches_named m b apart c on = caught_so b.number m.laid b.is_laid c on (apart c on)
+  pub catches_named : (m : Beside) → IsBeside p m judged.codes → CatchesAreNamed p m
+  catches_named m b c on = caught_so b.number m.laid b.is_laid c on

@@ -1,24 +1,21 @@
 -- Methods of Method of a converted package beside those of its class files: what is written for a method with code is
 -- selected by its least type table, which breaks no rule.
-use Rattle.std.proofs.Common.{◌≡◌, ℕ, zero, suc, ◌+◌, ◌-◌, ◌<◌, refl, sym, ap, subst, ◌∙◌, arith, List, [], length, map}
-use Rattle.std.proofs.Common.{slice_get, Option, Some, None, Contains}
-use Rattle.std.specs.Prelude.{IfSome, is_some}
+use Rattle.std.proofs.Common.{◌≡◌, ℕ, ◌+◌, ◌-◌, ◌<◌, sym, ap, subst, ◌∙◌, arith, List, length}
+use Rattle.std.proofs.Common.{slice_get, Option, Some, Contains}
+use Rattle.std.specs.Prelude.{IfSome}
 use Rattle.cjc_verified_proof.proofs.BytesGets.{all_at, contained, contains_at, get_below, get_inside}
 use Rattle.cjc_verified_proof.proofs.ClassFileFitting.{spelt_fits}
 use Rattle.cjc_world.specs.ClassFile.Code.{CodeTree}
 use Rattle.cjc_world.specs.ClassFile.Fits as fits
 use Rattle.cjc_world.specs.ClassFile.declared.tree.ClassTree.{ClassTree}
 use Rattle.cjc_world.specs.ClassFile.declared.tree.MethodTree.{MethodTree}
-use Rattle.cjc_world.specs.Classes.{all_classes}
 use Rattle.cjc_world.specs.Files.{Files}
 use Rattle.cjc_components.specs.Bytecode.Decoded.{decoded, insns_of, of_code, of_method}
 use Rattle.cjc_components.specs.Bytecode.PackageCodes.{all_codes}
 use Rattle.cjc_components.specs.Bytecode.declared.method_code.MethodCode.{MethodCode}
 use Rattle.cjc_components.specs.Package.{LaidMethod, Package, pool, world}
-use Rattle.cjc_components.specs.Written.{IsWritten, code_at, code_by}
-use Rattle.cjc_ncode.specs.Written.{catches_at, narrow_code}
+use Rattle.cjc_components.specs.Written.{IsWritten, code_by}
 use Rattle.cjc_ncode.specs.declared.narrow.NMethod.{NMethod}
-use Rattle.cjc_narrow.specs.Rows.Package.{code_of}
 use Rattle.cjc_narrow.specs.Rows.Resolved.{argument_words}
 use Rattle.cjc_narrow.specs.Rows.Selected.{near_fields, selected_code}
 use Rattle.cjc_narrow_proof.proofs.SelectedLaws.Run.{same_code}
@@ -37,7 +34,7 @@ use Rattle.cjc_theorem.specs.ShapeProof.Written.Converted.{IsConverted}
 use Rattle.cjc_verified_proof.specs.JvmSemantics.Linked.{Method}
 use Rattle.cjc_verified_proof.specs.JvmSemantics.OnePackage.{method_at, method_by}
 use Rattle.cjc_verified_proof.specs.List.Listed.{ListTree}
-use Rattle.cjc_accepted_proof.specs.Beside.{Beside, IsBeside, label_in, names_in, reached_in}
+use Rattle.cjc_accepted_proof.specs.Beside.{Beside, IsBeside}
 use Rattle.cjc_accepted_proof.specs.CardActs.CardTypes.{ValueType}
 use Rattle.cjc_accepted_proof.specs.Coded.{card_type}
 use Rattle.cjc_accepted_proof.specs.Frames.{IsTypeFor}
@@ -63,10 +60,10 @@ module _ (list : ListTree) (files : List (List ℕ)) (judged : Judged) (p : Pack
     pub decoding_is : IsDecoded t x tree
     decoding_is = own_ready.decoded n i t x tree is_class is_method is_code
 
-    abbrev code : MethodCode
+    abbrev pub code : MethodCode
     code = record { class = n; method = i; insns = decoding_is.insns }
 
-    of_package : IsMethodOf p.files code t x tree
+    pub of_package : IsMethodOf p.files code t x tree
     of_package = record {
       is_class = is_class;
       is_method = is_method;
@@ -83,7 +80,7 @@ module _ (list : ListTree) (files : List (List ℕ)) (judged : Judged) (p : Pack
         contained (all_codes (let w = p.files in w.classes)) place.0 code (place.1
         ∙ ap (λ c. Some (record { class = c; method = i; insns = decoding_is.insns })) number)
 
-    listed : Contains judged.codes code
+    pub listed : Contains judged.codes code
     listed = subst (λ cs. Contains cs code) (sym own_ready.codes_are) among
 
     abbrev table_rows : List (Option State)
@@ -155,6 +152,7 @@ module _ (list : ListTree) (files : List (List ℕ)) (judged : Judged) (p : Pack
       is_beside typed = record {
         number = k;
         is_laid = there;
+        named = named;
         is_method = of_package;
         listed = listed;
         some = some_bytes;

@@ -1,14 +1,13 @@
 -- What a class of which objects are made has for its tokens: selection by name gives it, and it is no abstract method.
-use Rattle.std.proofs.Common.{◌≡◌, ◌⊎◌, ⊎_elim, inl, inr, ℕ, suc, ◌+◌, refl, sym, ap, subst, ◌∙◌, arith, Bool, true}
+use Rattle.std.proofs.Common.{◌≡◌, ⊎_elim, inl, ℕ, ◌+◌, refl, sym, ap, subst, ◌∙◌, arith, Bool, true}
 use Rattle.std.proofs.Common.{false, List, [], ◌∷◌, ◌++◌, length, map}
 use Rattle.std.specs.Prelude.{◌&&◌, ◌||◌, not, codes, Option, Some, None, if◌then◌else◌, option_to_list, slice_get}
 use Rattle.std.specs.Str.{bytes_eq}
-use Rattle.cjc_verified_proof.specs.Bytes.AccessFlags.{is_abstract, is_interface, is_public, is_static}
-use Rattle.cjc_verified_proof.proofs.BytesBools.{and_true, clash}
+use Rattle.cjc_verified_proof.specs.Bytes.AccessFlags.{is_abstract, is_interface, is_static}
+use Rattle.cjc_verified_proof.proofs.BytesBools.{clash}
 use Rattle.cjc_verified_proof.proofs.BytesPlain.{same_some}
 use Rattle.cjc_verified_proof.specs.Components.Descriptor.{as_added}
 use Rattle.cjc_verified_proof.specs.Components.Package.{Package, world}
-use Rattle.cjc_verified_proof.specs.ExportFile.Members.{is_unbound}
 use Rattle.cjc_verified_proof.specs.JvmSemantics.OnePackage.{ResolvedMember, method_hit}
 use Rattle.cjc_verified_proof.specs.List.Listed.{ListTree}
 use Rattle.cjc_verified_proof.specs.World.Added.{added, asked_by, declares_open, has_open, is_one_of, lacking}
@@ -44,14 +43,14 @@ use Rattle.cjc_theorem.specs.VTable.Calls.{any_method, is_special, selects, sele
 use Rattle.cjc_theorem.specs.VTable.Dispatch.{dispatched, tower_of}
 use Rattle.cjc_theorem.specs.VTable.Kept.{Keeps}
 use Rattle.cjc_theorem.specs.VTable.Laws.{Under, below, itself, selection}
-use Rattle.cjc_theorem.proofs.VTableAgrees.{hidden_selects, virtual_plain}
+use Rattle.cjc_theorem.proofs.VTableAgrees.{virtual_plain}
 use Rattle.cjc_theorem.proofs.VTableAsked.{chosen-behind, chosen-front, has-In, public-shown}
 use Rattle.cjc_theorem.proofs.VTableGiven.{In-split, slot-of, taken-has, with_new-slot}
 use Rattle.cjc_theorem.proofs.VTableTold.{In-behind, In-front}
 use Rattle.cjc_verified_proof.proofs.WorldProofOwn.{IsAt, hit_is, own_at}
 use Rattle.cjc_verified_proof.proofs.WorldProofTypes.{receiver_class}
 use Rattle.cjc_verified_proof.proofs.TokenProofWrittenCallsFacts.{Facts}
-use Rattle.cjc_verified_proof.proofs.TokenProofWrittenCallsFiles.{in_at, place_in}
+use Rattle.cjc_verified_proof.proofs.TokenProofWrittenCallsFiles.{place_in}
 use Rattle.cjc_verified_proof.proofs.TokenProofWrittenCallsTowers.{line_is}
 
 -- ---- lists of methods

@@ -1,8 +1,8 @@
 -- Static methods, constructors and private methods that instructions of a converted package call: their entries say
 -- what the class files say.
-use Rattle.std.proofs.Common.{◌≡◌, ⊎_elim, ℕ, ◌+◌, ◌-◌, refl, sym, ap, subst, ◌∙◌, arith, Bool, true, false, List, []}
-use Rattle.std.proofs.Common.{length, inl, inr}
-use Rattle.std.specs.Prelude.{◌&&◌, ◌||◌, ◌⊎◌, not, Option, Some, None, get_or, option_and_then, option_map, position}
+use Rattle.std.proofs.Common.{◌≡◌, ℕ, ◌+◌, ◌-◌, refl, sym, ap, subst, ◌∙◌, arith, Bool, true, false, List, []}
+use Rattle.std.proofs.Common.{length}
+use Rattle.std.specs.Prelude.{◌&&◌, ◌||◌, not, Some, get_or, option_and_then, option_map, position}
 use Rattle.std.specs.Prelude.{slice_get, if◌then◌else◌}
 use Rattle.std.specs.Str.{bytes_eq}
 use Rattle.std.proofs.lemmas.Bool.{and_from}
@@ -11,25 +11,20 @@ use Rattle.cjc_verified_proof.specs.Bytecode.declared.insn.JOp.TheVariants as jo
 use Rattle.cjc_verified_proof.specs.Bytecode.declared.method_code.MethodCode.{MethodCode}
 use Rattle.cjc_verified_proof.specs.Bytes.AccessFlags.{is_abstract, is_interface, is_private, is_static}
 use Rattle.cjc_verified_proof.specs.Bytes.declared.fault.MemberId.{MemberId}
-use Rattle.cjc_verified_proof.specs.CapRead.declared.tree.ClassRef.{ClassRef}
 use Rattle.cjc_verified_proof.specs.CapRead.declared.tree.MethodDescriptor.{MethodDescriptor}
 use Rattle.cjc_verified_proof.specs.CapRead.declared.tree.PoolEntry.TheVariants as entries
 use Rattle.cjc_verified_proof.specs.CapRead.declared.tree.StaticRef.{StaticRef}
-use Rattle.cjc_verified_proof.specs.CapRead.declared.tree.StaticRef.TheVariants as statics
-use Rattle.cjc_verified_proof.specs.CardSemantics.Bytecode.Machine.{Start}
-use Rattle.cjc_verified_proof.specs.CardSemantics.Machine.Methods.{Code}
 use Rattle.cjc_verified_proof.specs.ClassFile.declared.tree.ClassTree.{ClassTree}
 use Rattle.cjc_verified_proof.specs.Components.Descriptor.{method_flags, method_in}
 use Rattle.cjc_verified_proof.specs.Components.Names.{class_ref, method_ref, names}
 use Rattle.cjc_verified_proof.specs.Components.Package.{Package, world}
 use Rattle.cjc_verified_proof.specs.ExportFile.Members.{is_unbound}
-use Rattle.cjc_verified_proof.specs.ExportFile.declared.tree.ExportMethod.{ExportMethod}
-use Rattle.cjc_verified_proof.specs.JvmSemantics.OnePackage.{ResolvedMember, is_constructor, method_hit, of_class}
+use Rattle.cjc_verified_proof.specs.JvmSemantics.OnePackage.{is_constructor, of_class}
 use Rattle.cjc_verified_proof.specs.List.Listed.{ListTree}
 use Rattle.cjc_verified_proof.specs.NCode.Lowering.Naming.{Holds, entry_of}
 use Rattle.cjc_verified_proof.specs.NCode.declared.narrow.PoolKey.{PoolKey}
 use Rattle.cjc_verified_proof.specs.NCode.declared.narrow.PoolKey.TheVariants as keys
-use Rattle.cjc_verified_proof.specs.Narrow.Rows.Resolved.{method_found, resolved_method, special_by}
+use Rattle.cjc_verified_proof.specs.Narrow.Rows.Resolved.{resolved_method}
 use Rattle.cjc_verified_proof.specs.TokenProof.Components.Methods.{HasMethods}
 use Rattle.cjc_verified_proof.specs.TokenProof.Tables.Loading.{naming}
 use Rattle.cjc_verified_proof.specs.TokenProof.Tables.Sound.{IsSound as FilesAreSound}
@@ -39,7 +34,7 @@ use Rattle.cjc_verified_proof.specs.Verify.Named.{holder_in, holder_of, holds, i
 use Rattle.cjc_verified_proof.specs.Verify.Named.{is_static_described, is_static_listed, names_abstract, names_static}
 use Rattle.cjc_verified_proof.specs.Verify.Named.{named_desc, static_method}
 use Rattle.cjc_verified_proof.specs.Verify.Pairs.{Pair}
-use Rattle.cjc_verified_proof.specs.World.Classes.{Class, Member, class_at, class_named, method_of_export}
+use Rattle.cjc_verified_proof.specs.World.Classes.{Class, Member, class_at, method_of_export}
 use Rattle.cjc_verified_proof.specs.World.Lookup.{find_method, is_called, member_at}
 use Rattle.cjc_verified_proof.specs.World.Order.{class_order, methods_of_class}
 use Rattle.cjc_verified_proof.specs.World.Rules.{is_twice}
@@ -50,14 +45,12 @@ use Rattle.cjc_verified_proof.proofs.BytesPlain.{same_some}
 use Rattle.cjc_verified_proof.proofs.TokenProofAbove.{rules_of}
 use Rattle.cjc_verified_proof.proofs.TokenProofWrittenCallsFacts.{Facts}
 use Rattle.cjc_verified_proof.proofs.TokenProofWrittenCallsFlags.{static_same}
-use Rattle.cjc_verified_proof.proofs.WorldCycles.{class_named-name}
 use Rattle.cjc_verified_proof.proofs.WorldProofOwn.{IsAt, mapped_at}
 use Rattle.cjc_world.specs.Classes.{method_of_class}
 use Rattle.cjc_check_proof.specs.Classes.Premises.{TypesAreKnown}
 use Rattle.cjc_check_proof.specs.Types.Flow.{Body}
 use Rattle.cjc_check_proof.specs.Types.Rules.{is_found_private, is_private_in, names_private, no_member}
 use Rattle.cjc_check_proof.specs.Types.Rules.{receiver_class}
-use Rattle.cjc_check_proof.specs.Types.Types.{parts}
 use Rattle.cjc_narrow_proof.specs.Laws.Unbroken.{IsInsnOf, IsUnbroken}
 use Rattle.cjc_narrow_proof.proofs.LawsLaws.Own.{first_here}
 use Rattle.cjc_accepted_proof.specs.Carded.{EntriesAreNamed}
@@ -354,7 +347,7 @@ module _ (list : ListTree) (files : List (List ℕ)) (judged : Judged) (p : Pack
       bound false false false e f g own import = absurd cc
 
   -- the receiver of a constructor or a private method is of the class that is named
-  private_is : (id : MemberId) (d : Class) (f : Found) (at : IsAt false id.name id.desc d f)
+  pub private_is : (id : MemberId) (d : Class) (f : Found) (at : IsAt false id.name id.desc d f)
       → find_method w id.class id.name id.desc ≡ Some f → class_at w d.is_imported d.number ≡ Some d
       → names_private w id ≡ is_private (let m = at.member in m.flags)
   unfolding names_private

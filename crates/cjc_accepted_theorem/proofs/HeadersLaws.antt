@@ -1,8 +1,8 @@
 -- Headers of a converted package have the words of their methods' types, and none is abstract of a method with code.
-use Rattle.std.proofs.Common.{◌≡◌, ⊎_elim, ℕ, zero, suc, ◌+◌, ◌-◌, ◌≤◌, ◌<◌, ◌==◌, refl, sym, ap, subst, ◌∙◌, arith}
+use Rattle.std.proofs.Common.{◌≡◌, ⊎_elim, ℕ, zero, suc, ◌+◌, ◌-◌, ◌≤◌, ◌==◌, refl, sym, ap, subst, ◌∙◌, arith}
 use Rattle.std.proofs.Common.{Bool, true, false, List, [], ◌∷◌, ◌++◌, length, map, Option, Some, None}
 use Rattle.std.specs.Prelude.{◌&&◌, ◌||◌, not, flat_map, if◌then◌else◌, option_and_then, option_map, slice_get}
-use Rattle.std.specs.List.{AllByRecursion, find, list_all, list_any}
+use Rattle.std.specs.List.{list_all, list_any}
 use Rattle.std.proofs.lemmas.List.{length-map}
 use Rattle.std.proofs.lemmas.List.Concat.{flat_map-cons}
 use Rattle.std.proofs.lemmas.Map.Keys.{any_passes_from_place}
@@ -29,7 +29,6 @@ use Rattle.cjc_accepted_proof.proofs.CheckProofOwnClasses.{own_classes}
 use Rattle.cjc_verified_proof.specs.CheckRules.Codes.{whole_spots}
 use Rattle.cjc_verified_proof.specs.CheckRules.Instructions.{jump_spots}
 use Rattle.cjc_verified_proof.specs.CheckRules.Spots.{in_info, item_at, unless}
-use Rattle.cjc_verified_proof.specs.CheckRules.declared.spot.ComponentPlace.{ComponentPlace}
 use Rattle.cjc_verified_proof.specs.CheckRules.Described.{types_at}
 use Rattle.cjc_verified_proof.specs.ClassFile.Code.{CodeTree}
 use Rattle.cjc_verified_proof.specs.ClassFile.declared.tree.ClassTree.{ClassTree}
@@ -109,7 +108,7 @@ flat_none f [] h = refl
 flat_none f (x ∷ xs) h = flat_map-cons f x xs ∙ ap (λ ys. ys ++ flat_map f xs) (h 0 x refl) ∙ flat_none f xs (λ k y e.
     h (suc k) y e)
 
-past_end : {A : Type 0} (xs : List A) (k : ℕ) → length xs ≤ k → slice_get xs k ≡ None
+pub past_end : {A : Type 0} (xs : List A) (k : ℕ) → length xs ≤ k → slice_get xs k ≡ None
 past_end [] k le = refl
 past_end (x ∷ xs) zero le = absurd (omega (arith, le))
 past_end (x ∷ xs) (suc k) le = past_end xs k (omega (arith, le))
@@ -162,6 +161,12 @@ word_sorts ref (s ∷ ss) e =
     let b = two (is_card_sort s) (list_all is_card_sort ss) e in
     ap (λ n. n + widths (map (type_for ref) ss)) (word_sort ref s b.0)
     ∙ ap (λ n. sorts.width s + n) (word_sorts ref ss b.1)
+
+-- the type that a type descriptor says
+pub said_type : (o : Option TypeDescriptor) (ns : List ℕ) → option_map (λ (t : TypeDescriptor). t.nibbles) o ≡ Some ns
+    → type_of o ≡ type_by (types_in ns)
+said_type None ns e = absurd cc
+said_type (Some t) ns e = ap (λ xs. type_by (types_in xs)) (same_some e)
 
 -- ---- a converted package
 
@@ -385,7 +390,7 @@ module _ (list : ListTree) (files : List (List ℕ)) (judged : Judged) (p : Pack
         by false g (suc j) f rest = behind (rest j f)
 
     -- it is among those that types are written for
-    listed_desc : (d : Class) → Has d (class_order w) → (f : Found) → IsMethodOf w d f
+    pub listed_desc : (d : Class) → Has d (class_order w) → (f : Found) → IsMethodOf w d f
         → Has (let m = method_in w d f.member in m.desc) (all_descs p)
     listed_desc d there f of =
         has-back (let m = method_in w d f.member in m.desc) (flat_map desc_of_key (pool p)) _ (has-flat
@@ -443,11 +448,6 @@ module _ (list : ListTree) (files : List (List ℕ)) (judged : Judged) (p : Pack
 
     module _ (whole : whole_spots (components p) ≡ []) (jump : jump_spots (components p) ≡ [])
         (card : HasCardTypes p) where
-      said_type : (o : Option TypeDescriptor) (ns : List ℕ) → option_map (λ (t : TypeDescriptor). t.nibbles) o ≡ Some ns
-          → type_of o ≡ type_by (types_in ns)
-      said_type None ns e = absurd cc
-      said_type (Some t) ns e = ap (λ xs. type_by (types_in xs)) (same_some e)
-
       card_both : (desc : List ℕ) (s : Signature) → signature_of desc ≡ Some s → IsOnCard desc
           → (list_all is_card_sort s.params && is_card_result s.result) ≡ true
       card_both desc s e on = sym (ap (is_card_type desc) e) ∙ on

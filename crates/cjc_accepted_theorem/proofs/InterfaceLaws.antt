@@ -1,7 +1,7 @@
 -- Methods of interfaces that instructions of a converted package call: their tokens say what the class files say.
 use Rattle.std.proofs.Common.{◌≡◌, ℕ, zero, suc, ◌+◌, ◌<◌, ◌^◌, refl, sym, ap, subst, ◌∙◌, Bool, true, false, List, []}
 use Rattle.std.proofs.Common.{◌∷◌, length, map}
-use Rattle.std.specs.Prelude.{◌&&◌, ◌||◌, Option, Some, None, if◌then◌else◌, is_some, option_and_then, option_map}
+use Rattle.std.specs.Prelude.{◌&&◌, Some, None, if◌then◌else◌, is_some, option_and_then, option_map}
 use Rattle.std.specs.Prelude.{position, slice_get}
 use Rattle.std.specs.List.{list_all}
 use Rattle.std.specs.Str.{bytes_eq}

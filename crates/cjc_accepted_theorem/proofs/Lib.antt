@@ -27,3 +27,8 @@ mod BodiesLaws
 mod CodedLaws
 mod CaughtLaws
 mod NamingLaws
+mod ExportsLaws
+mod AboveLaws
+mod ReadLaws
+mod RootLaws
+mod FewLaws

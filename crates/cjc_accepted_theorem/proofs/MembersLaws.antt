@@ -1,9 +1,8 @@
 -- Fields that instructions of a converted package name: their entries say what the class files say.
-use Rattle.std.proofs.Common.{◌≡◌, ℕ, refl, sym, ap, subst, ◌∙◌, Bool, true, false, List, [], ◌∷◌, ℤ}
-use Rattle.std.specs.Prelude.{◌&&◌, Option, Some, None, option_and_then, option_map, slice_get, if◌then◌else◌}
+use Rattle.std.proofs.Common.{◌≡◌, ℕ, refl, sym, ap, subst, ◌∙◌, Bool, true, false, List, []}
+use Rattle.std.specs.Prelude.{Option, Some, None}
 use Rattle.cjc_verified_proof.specs.Bytecode.declared.insn.JOp.TheVariants as jop
 use Rattle.cjc_verified_proof.specs.Bytecode.declared.method_code.MethodCode.{MethodCode}
-use Rattle.cjc_verified_proof.specs.Bytes.Descriptor.{Part}
 use Rattle.cjc_verified_proof.specs.Bytes.declared.descriptor.Kind.{Kind}
 use Rattle.cjc_verified_proof.specs.Bytes.declared.descriptor.Kind.TheVariants as kinds
 use Rattle.cjc_verified_proof.specs.Bytes.declared.fault.MemberId.{MemberId}
@@ -11,36 +10,31 @@ use Rattle.cjc_verified_proof.specs.CapRead.declared.tree.ClassRef.{ClassRef}
 use Rattle.cjc_verified_proof.specs.CapRead.declared.tree.PoolEntry.TheVariants as entries
 use Rattle.cjc_verified_proof.specs.CapRead.declared.tree.StaticRef.{StaticRef}
 use Rattle.cjc_verified_proof.specs.ClassFile.declared.tree.ClassTree.{ClassTree}
-use Rattle.cjc_verified_proof.specs.ClassFile.declared.tree.FieldTree.{FieldTree}
-use Rattle.cjc_verified_proof.specs.Clinit.Image.{IsImage}
 use Rattle.cjc_verified_proof.specs.Components.Names.{class_at, class_ref, field_ref, field_token, names}
 use Rattle.cjc_verified_proof.specs.Components.Package.{Package, world}
 use Rattle.cjc_verified_proof.specs.Components.Statics.{cell_offset}
-use Rattle.cjc_verified_proof.specs.JvmSemantics.OnePackage.{ResolvedMember, of_class}
+use Rattle.cjc_verified_proof.specs.JvmSemantics.OnePackage.{of_class}
 use Rattle.cjc_verified_proof.specs.List.Listed.{ListTree}
 use Rattle.cjc_verified_proof.specs.NCode.Lowering.Naming.{Holds}
 use Rattle.cjc_verified_proof.specs.NCode.declared.narrow.PoolKey.{PoolKey}
 use Rattle.cjc_verified_proof.specs.NCode.declared.narrow.PoolKey.TheVariants as keys
 use Rattle.cjc_verified_proof.specs.Narrow.Rows.Resolved.{constant_named, resolved_field}
-use Rattle.cjc_verified_proof.specs.Script.Sorts.{Shape, Sort, field_sort, reference_to, shape_named, sort_by, sort_of}
+use Rattle.cjc_verified_proof.specs.Script.Sorts.{Shape, field_sort, reference_to, shape_named, sort_by, sort_of}
 use Rattle.cjc_verified_proof.specs.Script.Sorts.{sort_or_none}
 use Rattle.cjc_verified_proof.specs.TokenProof.Tables.Loading.{naming}
 use Rattle.cjc_verified_proof.specs.TokenProof.Tables.Sound.{IsSound as FilesAreSound}
-use Rattle.cjc_verify.specs.ClassTypes.{class_type}
 use Rattle.cjc_verified_proof.specs.Verify.Described.{described_spots}
 use Rattle.cjc_verified_proof.specs.Verify.Named.{is_static_outside}
 use Rattle.cjc_verified_proof.specs.Verify.Pairs.{Pair}
-use Rattle.cjc_verified_proof.specs.World.Classes.{Class, Member, class_named}
+use Rattle.cjc_verified_proof.specs.World.Classes.{Class, Member}
 use Rattle.cjc_verified_proof.specs.World.Order.{class_order}
-use Rattle.cjc_verified_proof.specs.World.declared.found.Found.{Found}
 use Rattle.cjc_verified_proof.specs.WorldProof.Calls.Solid.{IsSolid}
 use Rattle.cjc_verified_proof.proofs.TokenProofOrder.{order_has, own_names}
 use Rattle.cjc_verified_proof.proofs.TokenProofClean.{has_named}
 use Rattle.cjc_verified_proof.proofs.TokenProofStarts.{ref_is_start}
 use Rattle.cjc_check_proof.specs.Classes.Premises.{TypesAreKnown}
 use Rattle.cjc_check_proof.specs.NarrowProof.Selection.Rows.{is_word_sort}
-use Rattle.cjc_check_proof.specs.Types.Types.{is_void, parts, result_of}
-use Rattle.cjc_check_proof.specs.Types.declared.cell.Cell.TheVariants.{Number}
+use Rattle.cjc_check_proof.specs.Types.Types.{is_void, parts}
 use Rattle.cjc_narrow_proof.specs.Laws.Unbroken.{IsInsnOf, IsUnbroken}
 use Rattle.cjc_narrow_proof.specs.Runs.Names.{IsWordField}
 use Rattle.cjc_narrow_proof.proofs.SelectedLaws.IntFree.{op_free}
@@ -70,7 +64,7 @@ use Rattle.cjc_theorem.proofs.VTableFiled.{has-get}
 use Rattle.cjc_accepted_theorem.specs.NamesDesc.{NamesItsDesc}
 use Rattle.cjc_accepted_theorem.proofs.EntriesLaws.{own_ref}
 use Rattle.cjc_accepted_theorem.proofs.PassedLaws.{class_passes, own_inside}
-use Rattle.cjc_accepted_theorem.proofs.TypedLaws.{EntrySays, entry_says, field_fits, part_value}
+use Rattle.cjc_accepted_theorem.proofs.TypedLaws.{entry_says, field_fits, part_value}
 
 -- the letter of a type moves the card's type of it
 moved_for : (card : List ℕ → Option (List ℕ)) (k : Kind) (class : List ℕ) (t : ValueType)

@@ -1,8 +1,8 @@
 -- Entries of the constant pool name methods of their keys' descriptors: those of virtual methods, of methods of
 -- superclasses, and of static methods and constructors of imported classes.
-use Rattle.std.proofs.Common.{◌≡◌, ℕ, zero, suc, ◌+◌, ◌==◌, refl, sym, ap, subst, ◌∙◌, arith, Bool, true, false, List}
+use Rattle.std.proofs.Common.{◌≡◌, ℕ, suc, ◌+◌, ◌==◌, refl, sym, ap, subst, ◌∙◌, arith, Bool, true, false, List}
 use Rattle.std.proofs.Common.{[], ◌∷◌}
-use Rattle.std.specs.Prelude.{◌&&◌, cond, Option, Some, if◌then◌else◌, option_and_then, option_map, slice_get}
+use Rattle.std.specs.Prelude.{◌&&◌, cond, Some, if◌then◌else◌, option_and_then, option_map, slice_get}
 use Rattle.std.specs.Prelude.{unwrap_or}
 use Rattle.std.specs.List.{find}
 use Rattle.cjc_verified_proof.specs.Bytes.AccessFlags.{is_interface}

@@ -1,14 +1,12 @@
 -- No class info of a converted package is of a class of which objects are made that has an abstract method.
-use Rattle.std.proofs.Common.{◌≡◌, ⊎_elim, ℕ, zero, suc, ◌+◌, refl, sym, ap, ◌∙◌, Bool, true, false, List}
-use Rattle.std.proofs.Common.{[], ◌∷◌, ◌++◌, map}
+use Rattle.std.proofs.Common.{◌≡◌, ⊎_elim, ℕ, suc, ◌+◌, refl, sym, ap, ◌∙◌, Bool, true, false, List}
+use Rattle.std.proofs.Common.{[], ◌∷◌, map}
 use Rattle.std.specs.Prelude.{◌||◌, not, Some, slice_get}
 use Rattle.std.specs.List.{list_any, range_with_len}
 use Rattle.cjc_verified_proof.specs.Bytes.AccessFlags.{is_abstract, is_interface}
 use Rattle.cjc_verified_proof.proofs.BytesGets.{mapped_at}
 use Rattle.cjc_verified_proof.proofs.BytesPlain.{same_some}
 use Rattle.cjc_verified_proof.proofs.DescribedLaws.{either_part}
-use Rattle.cjc_verified_proof.specs.CapRead.declared.tree.ClassEntry.{ClassEntry}
-use Rattle.cjc_verified_proof.specs.CapRead.declared.tree.InterfaceEntry.{InterfaceEntry}
 use Rattle.cjc_verified_proof.specs.CardSemantics.Machine.Classes.{Info, IsClass, IsInterface, Own, info_size}
 use Rattle.cjc_verified_proof.specs.CardSemantics.Machine.Classes.{offset_from}
 use Rattle.cjc_verified_proof.specs.CardSemantics.Machine.Classes as card

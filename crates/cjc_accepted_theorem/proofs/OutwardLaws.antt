@@ -1,10 +1,10 @@
 -- What dispatch gives of imported classes is no abstract method, where selection by name gives nothing of the package.
 use Rattle.std.proofs.Common.{◌≡◌, ◌⊎◌, ⊎_elim, inl, inr, ℕ, suc, ◌+◌, refl, sym, ap, subst, ◌∙◌, arith, Bool, true}
 use Rattle.std.proofs.Common.{false, List, [], ◌∷◌, length, map}
-use Rattle.std.specs.Prelude.{◌&&◌, ◌||◌, not, cond, Option, Some, None, if◌then◌else◌, option_map, position, slice_get}
+use Rattle.std.specs.Prelude.{◌&&◌, ◌||◌, not, cond, Option, Some, None, if◌then◌else◌, option_map, slice_get}
 use Rattle.std.specs.List.{find}
 use Rattle.std.specs.Str.{bytes_eq}
-use Rattle.cjc_verified_proof.specs.Bytes.AccessFlags.{is_abstract, is_interface, is_static}
+use Rattle.cjc_verified_proof.specs.Bytes.AccessFlags.{is_abstract, is_static}
 use Rattle.cjc_verified_proof.specs.Bytes.declared.fault.MemberId.{MemberId}
 use Rattle.cjc_verified_proof.proofs.BytesBools.{clash}
 use Rattle.cjc_verified_proof.proofs.BytesPlain.{same_some}
@@ -17,7 +17,6 @@ use Rattle.cjc_verified_proof.specs.ExportFile.declared.tree.ExportMethod.{Expor
 use Rattle.cjc_verified_proof.specs.JvmSemantics.OnePackage.{ResolvedMember, method_hit}
 use Rattle.cjc_verified_proof.specs.TokenProof.Calls.Dispatching.{SaysTower, event, of_file, of_package}
 use Rattle.cjc_verified_proof.specs.TokenProof.Calls.Selecting.{signature}
-use Rattle.cjc_verified_proof.specs.TokenProof.Tables.Infos.{HasEntry}
 use Rattle.cjc_verified_proof.specs.TokenProof.Tables.Loading.{loaded, naming}
 use Rattle.cjc_verified_proof.specs.Verify.Named.{first_of, is_abstract_listed, is_abstract_selection, line_found}
 use Rattle.cjc_verified_proof.specs.Verify.Named.{listed_as}

@@ -1,36 +1,30 @@
 -- Classes that instructions of a converted package name: the card has their types, and what is of one by name is of it,
 -- and of the class that declares a member, by token.
-use Rattle.std.proofs.Common.{◌≡◌, ℕ, refl, sym, ap, subst, ◌∙◌, Bool, true, false, List, [], ◌∷◌, ◌++◌}
-use Rattle.std.specs.Prelude.{◌||◌, Option, Some, None, is_some, if◌then◌else◌}
+use Rattle.std.proofs.Common.{◌≡◌, ℕ, refl, sym, ap, ◌∙◌, Bool, true, false, List, [], ◌∷◌, ◌++◌}
+use Rattle.std.specs.Prelude.{◌||◌, Some, is_some, if◌then◌else◌}
 use Rattle.cjc_verified_proof.specs.Bytes.AccessFlags.{acc_abstract, has, is_abstract, is_interface}
 use Rattle.cjc_verified_proof.proofs.WorldLines.{below_on}
 use Rattle.cjc_verified_proof.proofs.WorldCycles.{class_named-name}
 use Rattle.cjc_verified_proof.proofs.WorldProofTypes.{below_type, type_below}
 use Rattle.cjc_verified_proof.proofs.TokenProofAbove.{entry_of_name, info_of_name}
-use Rattle.cjc_verified_proof.specs.Bytecode.declared.method_code.MethodCode.{MethodCode}
-use Rattle.cjc_verified_proof.specs.CapRead.declared.tree.ClassRef.{ClassRef}
-use Rattle.cjc_verified_proof.specs.CapRead.declared.tree.ClassRef.TheVariants.{Inside, Outside}
 use Rattle.cjc_verified_proof.specs.Components.Names.{class_ref}
 use Rattle.cjc_verified_proof.specs.Components.Package.{Package, world}
-use Rattle.cjc_verified_proof.specs.ExportFile.declared.tree.ExportClass.{ExportClass}
 use Rattle.cjc_verified_proof.specs.List.Listed.{ListTree}
-use Rattle.cjc_verified_proof.specs.Script.Sorts.{OfClass, OfReferences, shape_named}
+use Rattle.cjc_verified_proof.specs.Script.Sorts.{OfClass, OfReferences}
 use Rattle.cjc_verified_proof.specs.TokenProof.Tables.Sound.{IsSound as FilesAreSound}
 use Rattle.cjc_verified_proof.specs.Verify.Named.{is_outside, is_unmade_class, is_unmade_export, names_unmade}
 use Rattle.cjc_verified_proof.specs.Verify.Pairs.{Pair}
 use Rattle.cjc_verified_proof.specs.World.Classes.{Class, class_named}
 use Rattle.cjc_verified_proof.specs.WorldProof.Calls.Solid.{IsSolid}
-use Rattle.cjc_world.specs.Subtype.{is_subtype, starts}
+use Rattle.cjc_world.specs.Subtype.{is_subtype}
 use Rattle.cjc_world.specs.Upwards.{Below}
 use Rattle.cjc_world.specs.Lookup.{receiver}
-use Rattle.cjc_check_proof.specs.Types.Rules.{all_types}
 use Rattle.cjc_check_proof.specs.Types.Types.{array_of}
-use Rattle.cjc_check_proof.specs.Types.declared.cell.Cell.{Cell}
 use Rattle.cjc_check_proof.proofs.NarrowProofSpelt.{IsReadAsClass, class_read}
 use Rattle.cjc_narrow_proof.specs.Laws.Unbroken.{IsUnbroken}
 use Rattle.cjc_narrow_proof.proofs.LawsLaws.ClassNames.{each_name}
 use Rattle.cjc_accepted_proof.specs.Coded.{card_type, is_of}
-use Rattle.cjc_accepted_proof.specs.Frames.{PassesFor, SubtypesAgree, card_cell}
+use Rattle.cjc_accepted_proof.specs.Frames.{PassesFor, SubtypesAgree}
 use Rattle.cjc_accepted_proof.specs.Written.{written_pair}
 use Rattle.cjc_accepted_proof.proofs.CheckProofSupers.{entry_there}
 use Rattle.cjc_accepted_proof.proofs.TypesLaws.{types_pass}

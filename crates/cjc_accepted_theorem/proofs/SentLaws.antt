@@ -1,11 +1,10 @@
 -- Virtual methods that instructions of a converted package call: their entries say what the class files say.
 use Rattle.std.proofs.Common.{◌≡◌, ℕ, ◌<◌, ◌^◌, refl, sym, ap, subst, ◌∙◌, inl, Bool, true, false, List, [], length}
-use Rattle.std.specs.Prelude.{Option, Some, None, if◌then◌else◌}
+use Rattle.std.specs.Prelude.{Some, if◌then◌else◌}
 use Rattle.cjc_verified_proof.specs.Bytecode.declared.insn.JOp.TheVariants as jop
 use Rattle.cjc_verified_proof.specs.Bytecode.declared.method_code.MethodCode.{MethodCode}
 use Rattle.cjc_verified_proof.specs.Bytes.Spots.{desc_of}
 use Rattle.cjc_verified_proof.specs.Bytes.declared.fault.MemberId.{MemberId}
-use Rattle.cjc_verified_proof.specs.CapRead.declared.tree.ClassRef.{ClassRef}
 use Rattle.cjc_verified_proof.specs.CapRead.declared.tree.PoolEntry.TheVariants as entries
 use Rattle.cjc_verified_proof.specs.ClassFile.declared.tree.ClassTree.{ClassTree}
 use Rattle.cjc_verified_proof.specs.Components.Names.{class_ref, names, virtual_token}
@@ -20,8 +19,7 @@ use Rattle.cjc_verified_proof.specs.TokenProof.Tables.Loading.{naming}
 use Rattle.cjc_verify.specs.ClassTypes.{class_type}
 use Rattle.cjc_verified_proof.specs.Verify.Described.{described_spots}
 use Rattle.cjc_verified_proof.specs.Verify.Pairs.{Pair}
-use Rattle.cjc_verified_proof.specs.World.Classes.{Class, Member, class_named}
-use Rattle.cjc_verified_proof.specs.WorldProof.Calls.Solid.{IsSolid}
+use Rattle.cjc_verified_proof.specs.World.Classes.{Class, class_named}
 use Rattle.cjc_world.specs.Upwards.{Below}
 use Rattle.cjc_check_proof.specs.Classes.Premises.{TypesAreKnown}
 use Rattle.cjc_narrow_proof.specs.Laws.Unbroken.{IsInsnOf, IsUnbroken}
@@ -36,7 +34,6 @@ use Rattle.cjc_accepted_proof.specs.Served.{entry_for, type_for}
 use Rattle.cjc_accepted_proof.specs.Written.{written_pair}
 use Rattle.cjc_theorem.proofs.AlikeLaws.MetLaws.KeySources.{Calls_method, IsMet, called, of_virtual}
 use Rattle.cjc_theorem.proofs.ShapeProofFiles.{own_unbroken, read_files}
-use Rattle.cjc_theorem.proofs.ShapeProofWorlds.{own_solid}
 use Rattle.cjc_theorem.specs.LowerJudge.Rules.{settings_of}
 use Rattle.cjc_theorem.specs.LowerJudge.declared.judged.Judged.{Judged}
 use Rattle.cjc_theorem.specs.ShapeProof.Written.Converted.{IsConverted}

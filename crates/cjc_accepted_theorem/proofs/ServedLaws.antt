@@ -1,6 +1,6 @@
 -- Instructions of a converted package's methods: what each names in the components is what the class file names.
-use Rattle.std.proofs.Common.{◌≡◌, ℕ, zero, suc, refl, sym, ap, subst, ◌∙◌, Bool, true, false, List, [], ◌∷◌, length, ℤ}
-use Rattle.std.specs.Prelude.{◌&&◌, ◌||◌, ◌==◌, not, Option, Some, None, is_some, flat_map, option_and_then, option_map}
+use Rattle.std.proofs.Common.{◌≡◌, ℕ, zero, suc, refl, sym, ap, subst, ◌∙◌, Bool, true, false, List, [], ◌∷◌, ℤ}
+use Rattle.std.specs.Prelude.{◌&&◌, ◌||◌, ◌==◌, not, Option, Some, None, is_some, option_and_then, option_map}
 use Rattle.std.specs.Prelude.{slice_get, if◌then◌else◌}
 use Rattle.cjc_verified_proof.specs.Bytecode.declared.insn.JInsn.{JInsn}
 use Rattle.cjc_verified_proof.specs.Bytecode.declared.insn.JOp.{JOp}
@@ -8,15 +8,14 @@ use Rattle.cjc_verified_proof.specs.Bytecode.declared.insn.JOp.TheVariants as jo
 use Rattle.cjc_verified_proof.specs.Bytecode.declared.method_code.MethodCode.{MethodCode}
 use Rattle.cjc_verified_proof.specs.Bytes.AccessFlags.{is_abstract, is_interface, is_private}
 use Rattle.cjc_verified_proof.specs.Bytes.declared.fault.MemberId.{MemberId}
-use Rattle.cjc_verified_proof.specs.CapRead.declared.tree.PoolEntry.TheVariants as entries
 use Rattle.cjc_verified_proof.specs.ClassFile.declared.tree.ClassTree.{ClassTree}
 use Rattle.cjc_verified_proof.specs.Components.Names.{class_ref, names, virtual_token}
-use Rattle.cjc_verified_proof.specs.Components.Package.{Package, pool, world}
+use Rattle.cjc_verified_proof.specs.Components.Package.{Package, world}
 use Rattle.cjc_verified_proof.specs.JvmSemantics.OnePackage.{field_named, is_made, method_by, object_fields}
 use Rattle.cjc_verified_proof.specs.JvmSemantics.OnePackage.{constant_at, field_by, field_hit, is_constructor}
 use Rattle.cjc_verified_proof.specs.JvmSemantics.OnePackage.{method_hit}
 use Rattle.cjc_verified_proof.specs.JvmSemantics.OnePackage.{of_class}
-use Rattle.cjc_verified_proof.specs.JvmSemantics.Linked.{Constant, Method, ResolvedField, Static}
+use Rattle.cjc_verified_proof.specs.JvmSemantics.Linked.{Static}
 use Rattle.cjc_verified_proof.specs.List.Listed.{ListTree}
 use Rattle.cjc_verified_proof.specs.NCode.Lowering.Naming.{Holds}
 use Rattle.cjc_verified_proof.specs.NCode.declared.narrow.NInsn.{NInsn}
@@ -44,10 +43,8 @@ use Rattle.cjc_verified_proof.specs.World.Order.{class_order, methods_of_class}
 use Rattle.cjc_verified_proof.specs.World.declared.found.Found.{Found}
 use Rattle.cjc_verified_proof.specs.WorldProof.Calls.Solid.{IsSolid}
 use Rattle.cjc_check_proof.specs.Classes.Premises.{TypesAreKnown}
-use Rattle.cjc_check_proof.specs.Types.Types.{parts, result_of}
-use Rattle.cjc_check_proof.specs.Types.declared.cell.Cell.TheVariants.{Number}
 use Rattle.cjc_check_proof.specs.Types.declared.state.State.{State}
-use Rattle.cjc_check_proof.specs.Types.Flow.{Body, body_of}
+use Rattle.cjc_check_proof.specs.Types.Flow.{Body}
 use Rattle.cjc_check_proof.specs.Fixpoint.Tables.{HasRow}
 use Rattle.cjc_ncode.specs.Written.{Access, Resolution, accessed, is_load, on_this, reached, static_by, this_access}
 use Rattle.cjc_ncode.specs.Written.{type_test, written, written_as, written_for}
@@ -93,7 +90,7 @@ use Rattle.cjc_accepted_theorem.specs.NamesDesc.{NamesItsDesc}
 use Rattle.cjc_accepted_theorem.proofs.FixedLaws as fixed
 use Rattle.cjc_accepted_theorem.proofs.InterfaceLaws.{interface_at}
 use Rattle.cjc_accepted_theorem.proofs.MembersLaws.{field_at, static_at}
-use Rattle.cjc_accepted_theorem.proofs.PassedLaws.{array_typed, class_typed, made_class, name_read}
+use Rattle.cjc_accepted_theorem.proofs.PassedLaws.{array_typed, class_typed, made_class}
 use Rattle.cjc_accepted_theorem.proofs.SentLaws.{sent_at, word_of}
 use Rattle.cjc_accepted_theorem.proofs.TypedLaws.{flat_there, shape_typed}
 

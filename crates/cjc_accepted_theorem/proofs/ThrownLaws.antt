@@ -4,9 +4,8 @@ use Rattle.std.specs.Prelude.{List, ℕ, Some, codes, is_some, option_map}
 use Rattle.cjc_verified_proof.specs.Components.Names.{ref_to}
 use Rattle.cjc_verified_proof.specs.Components.Package.{Package, world}
 use Rattle.cjc_verified_proof.specs.Script.Sorts.{OfClass}
-use Rattle.cjc_verified_proof.specs.TokenProof.Tables.Loading.{naming, part}
 use Rattle.cjc_verified_proof.specs.TokenProof.Tables.Sound.{IsSound}
-use Rattle.cjc_token_proof.specs.ByToken.Names.{HasLang, SaysFileName, SaysNames}
+use Rattle.cjc_token_proof.specs.ByToken.Names.{HasLang}
 use Rattle.cjc_token_proof.proofs.TablesLaws.Telling.{has_lang, says_names}
 use Rattle.cjc_verify.specs.ClassTypes.{class_type}
 use Rattle.cjc_verify.specs.Instructions.{throwable}

@@ -1,25 +1,23 @@
 -- The types of the entries of a converted package's pool: those of the descriptors of the members that they name, one
 -- word at most for each value.
-use Rattle.std.proofs.Common.{◌≡◌, ⊎_elim, ℕ, zero, suc, ◌+◌, refl, sym, ap, subst, ◌∙◌, Bool, true, false, List, []}
-use Rattle.std.proofs.Common.{◌∷◌, ◌++◌, map, length}
-use Rattle.std.specs.Prelude.{◌&&◌, Option, Some, None, flat_map, get_or, is_some, option_and_then, option_map}
+use Rattle.std.proofs.Common.{◌≡◌, ℕ, zero, suc, ◌+◌, refl, sym, ap, subst, ◌∙◌, Bool, true, false, List, []}
+use Rattle.std.proofs.Common.{◌∷◌, map, length}
+use Rattle.std.specs.Prelude.{◌&&◌, Option, Some, None, flat_map, get_or, option_and_then, option_map}
 use Rattle.std.specs.Prelude.{slice_get, if◌then◌else◌}
 use Rattle.std.specs.List.{AllByRecursion, list_all}
 use Rattle.std.proofs.lemmas.List.Concat.{flat_map-cons}
 use Rattle.std.proofs.lemmas.Option.{slice_get-map}
-use Rattle.cjc_verified_proof.specs.Bytes.Descriptor.{Part, Parts}
-use Rattle.cjc_verified_proof.specs.Bytes.Spots.{desc_of}
+use Rattle.cjc_verified_proof.specs.Bytes.Descriptor.{Part}
 use Rattle.cjc_verified_proof.specs.Bytes.declared.descriptor.Kind.{Kind}
 use Rattle.cjc_verified_proof.specs.Bytes.declared.descriptor.Kind.TheVariants as kinds
 use Rattle.cjc_verified_proof.specs.Bytes.declared.fault.MemberId.{MemberId}
 use Rattle.cjc_verified_proof.proofs.BytesGets.{get_behind, in_front}
 use Rattle.cjc_verified_proof.proofs.BytesLists.{none_right}
 use Rattle.cjc_verified_proof.proofs.BytesPlain.{same_some}
-use Rattle.cjc_verified_proof.proofs.EntryLaws.{Says, beside_none, said, unless_holds}
+use Rattle.cjc_verified_proof.proofs.EntryLaws.{beside_none, said, unless_holds}
 use Rattle.cjc_verified_proof.proofs.TypeLaws.{method_read, result_for, type_for}
 use Rattle.cjc_verified_proof.proofs.WorldProofOwn.{mapped_at}
 use Rattle.cjc_verified_proof.specs.CapRead.declared.tree.ClassRef.{ClassRef}
-use Rattle.cjc_verified_proof.specs.CapRead.declared.tree.PoolEntry.{PoolEntry}
 use Rattle.cjc_verify.specs.CheckRules.ClassRefs.{pool_count_at}
 use Rattle.cjc_verified_proof.specs.CheckRules.Complete.{described_size}
 use Rattle.cjc_verified_proof.specs.CheckRules.Spots.{beside, in_info}
@@ -27,11 +25,10 @@ use Rattle.cjc_check_proof.specs.Classes.Premises.{TypesAreKnown, is_known, resu
 use Rattle.cjc_check_proof.specs.Classes.Premises.{types_known}
 use Rattle.cjc_check_proof.specs.NarrowProof.Selection.Rows.{is_word_sort}
 use Rattle.cjc_check_proof.specs.NarrowProof.Tables.Calls.{IsWordDesc, is_word_result}
-use Rattle.cjc_check_proof.specs.NarrowProof.Tables.Names.{IsDesc}
 use Rattle.cjc_verified_proof.specs.Components.Descriptor.{descriptor, pool_type}
-use Rattle.cjc_verified_proof.specs.Components.Names.{class_ref, names, pool_entries}
+use Rattle.cjc_verified_proof.specs.Components.Names.{class_ref, names}
 use Rattle.cjc_verified_proof.specs.Components.Package.{Package, pool, world}
-use Rattle.cjc_verified_proof.specs.Components.Types.{all_descs, array_nibble, desc_of_key, descs_of_class}
+use Rattle.cjc_verified_proof.specs.Components.Types.{desc_of_key, descs_of_class}
 use Rattle.cjc_verified_proof.specs.Components.Types.{nibbles_by, ref_nibbles, shape_nibbles, sort_nibbles}
 use Rattle.cjc_verified_proof.specs.NCode.Lowering.Naming.{Holds, entry_of}
 use Rattle.cjc_verified_proof.specs.NCode.declared.narrow.PoolKey.{PoolKey}
@@ -47,16 +44,14 @@ use Rattle.cjc_verified_proof.specs.Verify.Pairs.{Pair, is_card_result, is_card_
 use Rattle.cjc_verified_proof.specs.Verify.Pairs as pairs
 use Rattle.cjc_verified_proof.specs.World.Classes.{Class}
 use Rattle.cjc_verified_proof.specs.World.Order.{class_order}
-use Rattle.cjc_accepted_proof.specs.CardActs.CardTypes.{MemberType, ValueType, type_at, type_by, types_in}
-use Rattle.cjc_accepted_proof.specs.CardActs.CardTypes as types
+use Rattle.cjc_accepted_proof.specs.CardActs.CardTypes.{MemberType, type_at, type_by, types_in}
 use Rattle.cjc_accepted_proof.specs.Carded.{EntriesAreNamed}
 use Rattle.cjc_accepted_proof.specs.Coded.{card_type}
-use Rattle.cjc_accepted_proof.specs.Frames.{AreTypesFor, IsTypeFor, MethodFits, is_there, nibbles_there}
+use Rattle.cjc_accepted_proof.specs.Frames.{AreTypesFor, IsTypeFor, MethodFits, nibbles_there}
 use Rattle.cjc_accepted_proof.specs.Written.{written_pair}
 use Rattle.cjc_accepted_proof.proofs.NamesLaws.{ref_alike}
 use Rattle.cjc_narrow_proof.specs.Runs.Names.{IsWordField}
 use Rattle.cjc_check_proof.specs.Types.Types.{is_void, parts}
-use Rattle.cjc_accepted_theorem.specs.NamesDesc.{NamesItsDesc}
 
 -- ---- lists
 

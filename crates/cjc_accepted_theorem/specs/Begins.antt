@@ -1,5 +1,5 @@
 -- How a method of a class begins: its header stands where its offset says.
-use Rattle.std.specs.Prelude.{◌≡◌, ℕ, Some, true}
+use Rattle.std.specs.Prelude.{◌≡◌, Some, true}
 use Rattle.cjc_verified_proof.specs.Bytes.AccessFlags.{is_abstract}
 use Rattle.cjc_verified_proof.specs.CardSemantics.Bytecode.Machine.{Start}
 use Rattle.cjc_verified_proof.specs.CardSemantics.Machine.Methods.{Code, start_of}

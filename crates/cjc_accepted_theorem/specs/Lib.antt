@@ -3,3 +3,4 @@ pub mod Begins
 pub mod ExportsHaveCode
 pub mod CallsServed
 pub mod ReadFrom
+pub mod Stands

@@ -14,17 +14,18 @@ ghost use Rattle.cjc_theorem.specs.ShapeProof.Written.Converted.{IsConverted};
 ghost use Rattle.cjc_accepted_proof.specs.Accepted.{HasTable};
 ghost use Rattle.cjc_accepted_proof.specs.Beside.{Beside, IsBeside};
 ghost use Rattle.cjc_accepted_proof.specs.Checked.{CatchesAreNamed, IsReadAs};
-ghost use Rattle.cjc_accepted_theorem.specs.CallsServed.{CallsAboveServed};
-ghost use Rattle.cjc_accepted_theorem.specs.ExportsHaveCode.{ExportsHaveCode};
 ghost use Rattle.cjc_accepted_theorem.specs.ReadFrom.{IsReadFrom};
+ghost use Rattle.cjc_accepted_theorem.specs.Stands.{StandsBeside};
 
+use crate::headers::converted_methods_begin;
+use crate::read::converted_packages_have_their_types;
 use crate::served::{
     converted_instructions_are_served, converted_methods_are_served,
     rows_of_converted_packages_stand,
 };
 use cjc_accepted_proof::beside::{checked_methods_have_tables, methods_stand_in_pairs};
 use cjc_accepted_proof::check_proof::code::methods_are_cut;
-use cjc_theorem::alike::{calls_have_opcodes, names_are_there};
+use cjc_theorem::alike::{calls_have_opcodes, names_are_there, types_are_known};
 use cjc_theorem::shape_proof::written::{
     converted_methods_are_consistent, converted_methods_are_ready,
 };
@@ -44,13 +45,35 @@ pub fn converted_methods_are_read()
     names_are_there();
 }
 
+/// Each method of Method of a converted package has no instructions, or is written for one of a class file with code:
+/// the type checker reads of it the header, the result and the arguments that this says, and its handlers stand.
+pub fn converted_methods_stand_beside()
+    ensures { (list : ListTree) (files : List (List ℕ)) (judged : Judged) (p : Package)
+        → IsConverted list files judged p → (k : ℕ) (v : Body) → slice_get (bodies (components p)) k ≡ Some v
+        → StandsBeside p judged.codes v }
+{
+    converted_methods_are_consistent();
+    converted_methods_are_read();
+    converted_methods_begin();
+    converted_packages_have_their_types();
+    methods_are_cut();
+    types_are_known();
+}
+
+/// The handlers of a method of Method catch by their indices the card's types of the classes that its class file names,
+/// or any exception where that is java/lang/Object.
+pub fn converted_handlers_are_named()
+    ensures { (list : ListTree) (files : List (List ℕ)) (judged : Judged) (p : Package)
+        → IsConverted list files judged p → (m : Beside) → IsBeside p m judged.codes → CatchesAreNamed p m }
+{}
+
 /// A method of Method that is written for one of a class file has a closed table of frames that breaks no rule, where
 /// the type checker reads of it what the class file says, and its handlers stand and catch what those of the class file
 /// name.
 pub fn converted_methods_have_tables()
     ensures { (list : ListTree) (files : List (List ℕ)) (judged : Judged) (p : Package)
-        → IsConverted list files judged p → ExportsHaveCode p → CallsAboveServed p judged.codes
-        → (m : Beside) → IsBeside p m judged.codes → (v : Body) → IsReadAs p m v → AllWritable (names p) p.methods
+        → IsConverted list files judged p → (m : Beside) → IsBeside p m judged.codes → (v : Body)
+        → IsReadAs p m v → AllWritable (names p) p.methods
         → HandlersStand (names p) (placed_at m.offset m.laid) (part p) → CatchesAreNamed p m → HasTable p v }
 {
     checked_methods_have_tables();

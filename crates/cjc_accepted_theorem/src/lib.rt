@@ -12,3 +12,4 @@ pub mod headers;
 pub mod read;
 pub mod read_back;
 pub mod served;
+pub mod stands;

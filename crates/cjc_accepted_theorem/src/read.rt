@@ -6,7 +6,7 @@ ghost use Rattle.cjc_verified_proof.specs.List.Listed.{ListTree};
 ghost use Rattle.cjc_verified_proof.specs.TokenProof.Tables.Loading.{naming};
 ghost use Rattle.cjc_theorem.specs.ShapeProof.Written.Converted.{IsConverted};
 ghost use Rattle.cjc_accepted_proof.specs.CardActs.CardTypes.{is_type_of};
-ghost use Rattle.cjc_accepted_proof.specs.Frames.{SubtypesAgree, type_named};
+ghost use Rattle.cjc_accepted_proof.specs.Frames.{AreFew, SubtypesAgree, type_named};
 ghost use Rattle.cjc_accepted_proof.specs.Read.{RefsAreRead};
 
 use cjc_accepted_proof::subtypes::subtypes_are_read;
@@ -14,13 +14,16 @@ use cjc_theorem::shape_proof::written::laid_out_packages_fit;
 use cjc_verified_proof::token_proof::by_token::kinds_are_subtypes;
 
 /// The class_refs that are written for a converted package are read back from the nibbles of types as the classes that
-/// they name, so a type that is a subtype of another by name is of it by token.
+/// they name, so a type that is a subtype of another by name is of it by token; so is java/lang/Throwable of what
+/// java/lang/Object is of, and the card has few types.
 pub fn converted_packages_have_their_types()
     ensures refs { (list : ListTree) (files : List (List ℕ)) (judged : Judged) (p : Package)
         → IsConverted list files judged p → RefsAreRead (world p) (naming p) }
     ensures subtypes { (list : ListTree) (files : List (List ℕ)) (judged : Judged) (p : Package)
         → IsConverted list files judged p
         → (let n = naming p in SubtypesAgree (type_named (world p) n.class_ref) (is_type_of n.loaded) (world p)) }
+    ensures few { (list : ListTree) (files : List (List ℕ)) (judged : Judged) (p : Package)
+        → IsConverted list files judged p → (let n = naming p in AreFew (type_named (world p) n.class_ref)) }
 {
     kinds_are_subtypes();
     laid_out_packages_fit();

@@ -27,14 +27,16 @@ use cjc_accepted_proof::described::descriptor_says_what_the_package_says;
 use cjc_accepted_proof::elements::types_of_arrays_agree;
 use cjc_accepted_proof::outside::rows_outside_pairs_stand;
 use cjc_theorem::alike::{
-    export_files_are_kept, super_calls_are_named, types_are_known, virtual_calls_are_named,
+    calls_have_opcodes, export_files_are_kept, names_are_there, super_calls_are_named,
+    types_are_known, virtual_calls_are_named,
 };
 use cjc_theorem::shape_proof::written::{
     converted_classes_keep_rules, converted_files_are_sound, converted_methods_are_consistent,
-    sizes_fit, static_images_fit,
+    converted_methods_are_in_order, converted_methods_are_ready, sizes_fit, static_images_fit,
 };
 use cjc_theorem::vtable::slot_laws::tokens_mean_methods;
 use cjc_theorem::vtable::{dispatch_laws, token_laws};
+use cjc_verified_proof::layout::layouts_are_laid_out;
 use cjc_verified_proof::token_proof::tables::static_fields_are_told;
 use cjc_verified_proof::world::lookup_laws;
 
@@ -49,17 +51,54 @@ pub fn converted_methods_are_served()
     types_of_arrays_agree();
 }
 
-/// What each reached instruction of a converted package names in its components is what it names in the class file,
-/// where no static method and no constructor of an export file is abstract, and calls of methods of superclasses name
-/// what they should.
+/// No static method and no constructor that an export file beside a converted package lists is abstract.
+pub fn exports_have_code()
+    ensures { (list : ListTree) (files : List (List ℕ)) (judged : Judged) (p : Package)
+        → IsConverted list files judged p → ExportsHaveCode p }
+{}
+
+/// What a method of a converted package calls above the class that holds it is served: that is no interface, and its
+/// token means a method with code from the superclass on, of the descriptor that the class file names.
+pub fn calls_above_are_served()
+    ensures { (list : ListTree) (files : List (List ℕ)) (judged : Judged) (p : Package)
+        → IsConverted list files judged p → CallsAboveServed p judged.codes }
+{
+    calls_have_opcodes();
+    converted_classes_keep_rules();
+    converted_files_are_sound();
+    converted_methods_are_consistent();
+    converted_methods_are_in_order();
+    converted_methods_are_ready();
+    converted_methods_begin();
+    converted_packages_have_card_types();
+    converted_packages_have_named_entries();
+    converted_packages_have_their_types();
+    descriptor_says_what_the_package_says();
+    dispatch_laws();
+    export_files_are_kept();
+    exports_have_code();
+    layouts_are_laid_out();
+    lookup_laws();
+    names_are_there();
+    sizes_fit();
+    static_fields_are_told();
+    static_images_fit();
+    super_calls_are_named();
+    token_laws();
+    tokens_mean_methods();
+    types_are_known();
+    virtual_calls_are_named();
+}
+
+/// What each reached instruction of a converted package names in its components is what it names in the class file.
 pub fn converted_instructions_are_served()
     ensures { (list : ListTree) (files : List (List ℕ)) (judged : Judged) (p : Package)
-        → IsConverted list files judged p → ExportsHaveCode p → CallsAboveServed p judged.codes
-        → (m : Beside) → IsBeside p m judged.codes
+        → IsConverted list files judged p → (m : Beside) → IsBeside p m judged.codes
         → (at : ℕ) (i : JInsn) (x : State) → (let code = m.code in slice_get code.insns at ≡ Some i)
         → HasRow m.rows at x
         → IsServed (card_type p) (is_of p) (world p) (written_pair p) (names p) (names_in p m) (body_by_name m) i.op }
 {
+    calls_above_are_served();
     converted_classes_keep_rules();
     converted_files_are_sound();
     converted_methods_are_consistent();
@@ -70,6 +109,7 @@ pub fn converted_instructions_are_served()
     descriptor_says_what_the_package_says();
     dispatch_laws();
     export_files_are_kept();
+    exports_have_code();
     lookup_laws();
     sizes_fit();
     static_fields_are_told();
@@ -84,8 +124,7 @@ pub fn converted_instructions_are_served()
 /// So the rows of its reached instructions outside of pairs stand.
 pub fn rows_of_converted_packages_stand()
     ensures { (list : ListTree) (files : List (List ℕ)) (judged : Judged) (p : Package)
-        → IsConverted list files judged p → ExportsHaveCode p → CallsAboveServed p judged.codes
-        → ArePaired p judged.codes → AllStandAlone p judged.codes }
+        → IsConverted list files judged p → ArePaired p judged.codes → AllStandAlone p judged.codes }
 {
     converted_instructions_are_served();
     converted_methods_are_served();

@@ -1,6 +1,6 @@
 -- Instructions on objects and arrays: what they make, test, load and store is of the card's types of what the class
 -- file names.
-use Rattle.std.proofs.Common.{◌≡◌, ◌⊎◌, ℕ, ◌+◌, ◌<◌, ◌≤◌, refl, sym, ap, subst, ◌∙◌, arith, inl, inr}
+use Rattle.std.proofs.Common.{◌≡◌, ◌⊎◌, ℕ, suc, ◌+◌, ◌<◌, ◌≤◌, refl, sym, ap, subst, ◌∙◌, arith, inl, inr}
 use Rattle.std.proofs.Common.{⊎_elim, Bool, true, false}
 use Rattle.std.proofs.Common.{List, [], ◌∷◌, ◌++◌, length, map, Option, Some, None}
 use Rattle.std.specs.Prelude.{◌||◌, ◌==◌, nat_le, if◌then◌else◌}
@@ -13,11 +13,12 @@ use Rattle.cjc_types.specs.Flow.{Body}
 use Rattle.cjc_types.specs.Names.{In, IsSet, IsWithin}
 use Rattle.cjc_types.specs.Working.NameLaws.{insert_cases, insert_new, insert_old, length_within, set_insert}
 use Rattle.cjc_types.specs.Rules.{all_types, has_wrong as has_wrong_by_name, is_array_for, is_of as is_of_class}
-use Rattle.cjc_types.specs.Rules.{is_number, is_reference, throwable}
+use Rattle.cjc_types.specs.Rules.{is_array_by, is_number, is_reference, is_some, throwable}
 use Rattle.cjc_types.specs.Types.{array_of, elements as elements_by_name, element_of as element_by_name}
 use Rattle.cjc_types.specs.Types.{held as held_by_name, letter, with_held as with_held_by_name}
 use Rattle.cjc_types.specs.Steps.{operand}
 use Rattle.cjc_types.specs.World.Classes.{Class}
+use Rattle.cjc_types.specs.World.Lookup.{object}
 use Rattle.cjc_types.specs.World.Subtype.{starts}
 use Rattle.cjc_types.specs.declared.cell.Cell.{Cell}
 use Rattle.cjc_types.specs.declared.cell.Cell.TheVariants.{Number, Refs, Unusable}
@@ -32,11 +33,12 @@ use Rattle.cjc_frames.specs.Acts.{Subtype, given, has_wrong, meets}
 use Rattle.cjc_frames.specs.Types.{begins_with, element_of, elements, held, item_of, with_held}
 use Rattle.cjc_verify.specs.Instructions.{asking, casting, exception_needs, last, making_numbers}
 use Rattle.cjc_accepted_proof.specs.Elements.{ArraysAgree, letter_for, works_on_int}
-use Rattle.cjc_accepted_proof.specs.Frames.{Mirrors, SubtypesAgree, card_cell, card_cells, types_named, with_type}
+use Rattle.cjc_accepted_proof.specs.Frames.{IsCardType, Mirrors, SubtypesAgree, card_cell, card_cells, its_own, thrown}
+use Rattle.cjc_accepted_proof.specs.Frames.{types_named, with_type}
 use Rattle.cjc_accepted_proof.proofs.KindsLaws.{first_operand}
-use Rattle.cjc_accepted_proof.proofs.RowsLaws.{cell_itself, zip_itself}
-use Rattle.cjc_accepted_proof.proofs.TypesLaws.{class_passes, type_from, type_in, types_few, types_pass}
-use Rattle.cjc_accepted_proof.proofs.TypesLaws.{types_set}
+use Rattle.cjc_accepted_proof.proofs.RowsLaws.{zip_itself}
+use Rattle.cjc_accepted_proof.proofs.TypesLaws.{class_passes, own_below, shorter, type_from, type_in, types_pass}
+use Rattle.cjc_accepted_proof.proofs.TypesLaws.{with_set}
 use Rattle.cjc_accepted_proof.proofs.InstructionsLaws.Operands.{number_meets, one_need, operand_same, reference_meets}
 use Rattle.cjc_accepted_proof.proofs.InstructionsLaws.Operands.{three_needs, two_needs}
 use Rattle.cjc_accepted_proof.proofs.InstructionsLaws.Plain.{one_word_mirrors, taking_mirrors}
@@ -44,12 +46,6 @@ use Rattle.cjc_accepted_proof.proofs.InstructionsLaws.Plain.{one_word_mirrors, t
 module _ (card_type : List ℕ → Option (List ℕ)) (is_of : Subtype) where
   abbrev cells : List Cell → List Cell
   cells = card_cells card_type
-
-  -- an object of a type is what the card knows of one of its class
-  pub object_below : (class type : List ℕ) → card_type class ≡ Some type → IsCellBelow (Refs (type ∷ [])) (card_cell
-      card_type (Refs (class ∷ [])))
-  object_below class type e = subst (λ (o : Option (List ℕ)). IsCellBelow (Refs (type ∷ [])) (Refs (with_type o [])))
-      (sym e) (cell_itself (Refs (type ∷ [])))
 
   -- ---- what arrays of references hold
 
@@ -91,20 +87,66 @@ module _ (card_type : List ℕ → Option (List ℕ)) (is_of : Subtype) where
       (λ (o : Option (List ℕ)). In n (with_held_by_name o acc)) (sym (ap held_by_name same ∙ e)) (insert_new n acc))
   element_in (x ∷ names) acc name n (inr h) e = element_in names (with_held_by_name (held_by_name x) acc) name n h e
 
+  -- the names' own types, no more than there are names
+  abbrev own_types : List (List ℕ) → List (List ℕ)
+  own_types [] = []
+  own_types (name ∷ names) = with_type (card_type name) (own_types names)
+
+  own_set : (names : List (List ℕ)) → IsSet (own_types names)
+  own_set [] = tt
+  own_set (name ∷ names) = with_set card_type (card_type name) (own_types names) (own_set names)
+
+  own_few : (names : List (List ℕ)) → length (own_types names) ≤ length names
+  own_few [] = omega arith
+  own_few (name ∷ names) = by (card_type name) (own_few names)
+    where
+      by : (o : Option (List ℕ)) → length (own_types names) ≤ length names → length (with_type o (own_types names))
+          ≤ suc (length names)
+      by None h = omega (arith, h)
+      by (Some t) h = let more = shorter card_type t (own_types names) in omega (arith, h, more)
+
+  own_in : (names : List (List ℕ)) (name t : List ℕ) → In name names → card_type name ≡ Some t → In t (own_types names)
+  own_in [] name t h e = absurd h
+  own_in (x ∷ names) name t (inl same) e = subst (λ (o : Option (List ℕ)). In t (with_type o (own_types names)))
+      (sym (ap card_type same ∙ e)) (insert_new t (own_types names))
+  own_in (x ∷ names) name t (inr h) e = by (card_type x) (own_in names name t h e)
+    where
+      by : (o : Option (List ℕ)) → In t (own_types names) → In t (with_type o (own_types names))
+      by None i = i
+      by (Some u) i = insert_old u t (own_types names) i
+
   module _ (arrays : ArraysAgree card_type) where
-    elements_within : (names : List (List ℕ)) → IsWithin (elements (types_named card_type names) []) (types_named
-        card_type (elements_by_name names []))
-    elements_within names t i = ⊎_elim (λ (none : In t []). absurd none)
+    -- an element is of the type of what one of the arrays by name holds; java/lang/Throwable is no array
+    element_of_name : (names : List (List ℕ)) (t : List ℕ) → In t (elements (types_named card_type names) [])
+        → (inner : List ℕ) × In inner (elements_by_name names []) × (card_type inner ≡ Some t)
+    element_of_name names t i = ⊎_elim (λ (none : In t []). absurd none)
         (λ (r : (x : List ℕ) × In x (types_named card_type names) × (held x ≡ Some t)). found r) (element_from
         (types_named card_type names) [] t i)
       where
-        found : ((x : List ℕ) × In x (types_named card_type names) × (held x ≡ Some t)) → In t (types_named card_type
-            (elements_by_name names []))
-        found r =
-            let n = type_from card_type names r.0 r.1 in
-            let h = arrays.inside n.0 r.0 t n.2 r.2 in
-            type_in card_type (elements_by_name names []) h.inner t (element_in names [] n.0 h.inner n.1 h.holds)
-            h.typed
+        by : (name type : List ℕ) → In name names → IsCardType card_type name type → held type ≡ Some t
+            → (inner : List ℕ) × In inner (elements_by_name names []) × (card_type inner ≡ Some t)
+        by name type among (its_own e) f = let h = arrays.inside name type t e f in (
+          h.inner,
+          element_in names [] name h.inner among h.holds,
+          h.typed,
+        )
+        by name type among (thrown is e) f =
+            let h = arrays.inside throwable type t e f in
+            let none : None ≡ Some h.inner = h.holds in
+            absurd cc
+
+        found : ((x : List ℕ) × In x (types_named card_type names) × (held x ≡ Some t)) → (inner : List ℕ) × In inner
+            (elements_by_name names []) × (card_type inner ≡ Some t)
+        found r = let n = type_from card_type names r.0 r.1 in by n.0 r.0 n.1 n.2 r.2
+
+    elements_within : (names : List (List ℕ)) → IsWithin (elements (types_named card_type names) []) (types_named
+        card_type (elements_by_name names []))
+    elements_within names t i = let r = element_of_name names t i in type_in card_type (elements_by_name names []) r.0 t
+        r.1 (its_own r.2)
+
+    elements_own : (names : List (List ℕ)) → IsWithin (elements (types_named card_type names) []) (own_types
+        (elements_by_name names []))
+    elements_own names t i = let r = element_of_name names t i in own_in (elements_by_name names []) r.0 t r.1 r.2
 
     -- what aaload gives
     references_below : (x : Cell) → IsCellBelow (element_of (card_cell card_type x)) (card_cell card_type
@@ -123,9 +165,9 @@ module _ (card_type : List ℕ → Option (List ℕ)) (is_of : Subtype) where
         by true e =
             let all = elements_by_name names [] in
             let within = elements_within names in
-            let fewer = length_within (elements (types_named card_type names) []) (types_named card_type all)
-            (elements_set (types_named card_type names) [] tt) (types_set card_type all) within in
-            let few = types_few card_type all in
+            let fewer = length_within (elements (types_named card_type names) []) (own_types all)
+            (elements_set (types_named card_type names) [] tt) (own_set all) (elements_own names) in
+            let few = own_few all in
             let short : nat_le (length (elements (types_named card_type names) [])) most_names ≡ true = grind (
               arith,
               nat_tests,
@@ -157,7 +199,7 @@ module _ (card_type : List ℕ → Option (List ℕ)) (is_of : Subtype) where
         }) ls s
     new_mirrors class type typed misnames made ls s = record {
       as_many = refl;
-      puts = (object_below class type typed, tt);
+      puts = (own_below card_type class type typed, tt);
       writes = zip_itself (cells ls);
       operands = refl;
       locals_right = refl;
@@ -172,7 +214,7 @@ module _ (card_type : List ℕ → Option (List ℕ)) (is_of : Subtype) where
         → (ls s : List Cell) → has_wrong_by_name w b (jop.NewArray number) 1 0 s ≡ false
         → Mirrors card_type is_of (jop.NewArray number) (making_numbers (Some type)) ls s
     numbers_mirror number type typed = one_word_mirrors card_type is_of w b (jop.NewArray number) NumberWord (AnObject
-        type) (Refs ((91 ∷ letter number ∷ []) ∷ [])) refl (λ ls s. refl) (λ ls s. refl) (λ ls s. object_below (91
+        type) (Refs ((91 ∷ letter number ∷ []) ∷ [])) refl (λ ls s. refl) (λ ls s. refl) (λ ls s. own_below card_type (91
         ∷ letter number ∷ []) type typed) (λ x e. number_meets card_type is_of x e)
 
     -- anewarray
@@ -180,14 +222,14 @@ module _ (card_type : List ℕ → Option (List ℕ)) (is_of : Subtype) where
         → has_wrong_by_name w b (jop.ANewArray class) 1 0 s ≡ false → Mirrors card_type is_of (jop.ANewArray class)
         (record idle { takes = NumberWord ∷ []; gives = AnObject type ∷ [] }) ls s
     references_mirror class type typed = one_word_mirrors card_type is_of w b (jop.ANewArray class) NumberWord (AnObject
-        type) (Refs (array_of class ∷ [])) refl (λ ls s. refl) (λ ls s. refl) (λ ls s. object_below (array_of class)
+        type) (Refs (array_of class ∷ [])) refl (λ ls s. refl) (λ ls s. refl) (λ ls s. own_below card_type (array_of class)
         type typed) (λ x e. number_meets card_type is_of x e)
 
     -- checkcast
     pub cast_mirrors : (class type : List ℕ) → card_type class ≡ Some type → (ls s : List Cell) → has_wrong_by_name w b
         (jop.CheckCast class) 1 0 s ≡ false → Mirrors card_type is_of (jop.CheckCast class) (casting (Some type)) ls s
     cast_mirrors class type typed = one_word_mirrors card_type is_of w b (jop.CheckCast class) ReferenceWord (AnObject
-        type) (Refs (class ∷ [])) refl (λ ls s. refl) (λ ls s. refl) (λ ls s. object_below class type typed)
+        type) (Refs (class ∷ [])) refl (λ ls s. refl) (λ ls s. refl) (λ ls s. own_below card_type class type typed)
         (λ x e. reference_meets card_type is_of x e)
 
     -- instanceof
@@ -213,6 +255,25 @@ module _ (card_type : List ℕ → Option (List ℕ)) (is_of : Subtype) where
         reference Unusable e = absurd cc
 
     module _ (arrays : ArraysAgree card_type) where
+      -- java/lang/Object is no array
+      not_array : (opcode : ℕ) → is_array_for opcode object ≡ true → ⊥
+      not_array opcode e = by ((opcode == jvm.iaload) || (opcode == jvm.iastore)) ((opcode == jvm.aaload) || (opcode
+          == jvm.aastore)) ((opcode == jvm.baload) || (opcode == jvm.bastore)) e
+        where
+          by : (i a b : Bool) → (if i then is_array_by 73 object else if a then is_some (held_by_name object)
+              else if b then is_array_by 66 object || is_array_by 90 object else is_array_by 83 object) ≡ true → ⊥
+          by true a b f = cc
+          by false true b f = cc
+          by false false true f = cc
+          by false false false f = cc
+
+      -- a type of an array passes where those of arrays do
+      arrays_pass : (test pass : List ℕ → Bool) → (test object ≡ true → ⊥) → ((name t : List ℕ) → test name ≡ true
+          → card_type name ≡ Some t → pass t ≡ true) → (name t : List ℕ) → test name ≡ true
+          → IsCardType card_type name t → pass t ≡ true
+      arrays_pass test pass none each name t f (its_own e) = each name t f e
+      arrays_pass test pass none each name t f (thrown is e) = absurd (none (sym (ap test is) ∙ f))
+
       -- arraylength
       pub length_mirrors : (ls s : List Cell) → has_wrong_by_name w b jop.ArrayLength 1 0 s ≡ false
           → Mirrors card_type is_of jop.ArrayLength (record idle {
@@ -221,13 +282,14 @@ module _ (card_type : List ℕ → Option (List ℕ)) (is_of : Subtype) where
           }) ls s
       length_mirrors = one_word_mirrors card_type is_of w b jop.ArrayLength (OfArrays all_arrays) ANumber Number refl
           (λ ls s. refl) (λ ls s. refl) (λ ls s. tt) (λ x e. types_pass card_type (starts 91) (begins_with all_arrays)
-          (λ name t f g. arrays.arrays name t g f) x e)
+          (arrays_pass (starts 91) (begins_with all_arrays) (λ f. cc) (λ name t f g. arrays.arrays name t g f)) x e)
 
       -- an array that an instruction serves
       array_meets : (opcode : ℕ) → works_on_int opcode ≡ false → (x : Cell) → all_types (is_array_for opcode) x ≡ true
           → meets is_of (OfArrays (arrays_of (letter_for opcode))) (card_cell card_type x) ≡ true
       array_meets opcode short x e = types_pass card_type (is_array_for opcode) (begins_with (arrays_of (letter_for
-          opcode))) (λ name t f g. arrays.served opcode name t g short f) x e
+          opcode))) (arrays_pass (is_array_for opcode) (begins_with (arrays_of (letter_for opcode))) (not_array opcode)
+          (λ name t f g. arrays.served opcode name t g short f)) x e
 
       -- aaload, baload and saload
       pub item_mirrors : (opcode : ℕ) → works_on_int opcode ≡ false → (ls s : List Cell)

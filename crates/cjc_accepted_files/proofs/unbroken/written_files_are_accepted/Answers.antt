@@ -6,12 +6,13 @@ use Rattle.cjc_components.specs.LowerCheckRules.Complete.{complete}
 use Rattle.cjc_components.specs.Components.{components_of}
 
 pub returns : goal.returns
-returns c = λ list files made read is trees spell fair code spelt spelt_is image is_image cap cap_is whole whole_is.
+returns c = λ list files made read is trees spell fair spelt spelt_is image is_image cap cap_is whole whole_is.
     let judged = is.judged in
     let p = is.whole in
     let conv = c.conversions_are_of_packages.ensures list files made read is trees spell fair in
     let same : cap ≡ components_of p = same_some (sym cap_is ∙ c.written_files_are_read_back.ensures.components p
     made.caps is.caps_spelt) in
     c.written_components_are_accepted.ensures list files judged p conv
-    (c.converted_packages_are_accepted.ensures list files judged p conv (code p is.is_package)) spelt spelt_is image
+    (c.converted_packages_are_accepted.ensures list files judged p conv
+    (c.code_of_converted_packages_stands.ensures list files judged p conv)) spelt spelt_is image
     is_image whole (subst (λ (t : CapTree). complete t ≡ Some whole) same whole_is)

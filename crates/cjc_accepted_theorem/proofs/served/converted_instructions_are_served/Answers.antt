@@ -12,7 +12,7 @@ use Rattle.cjc_verified_proof.proofs.TokenProofWrittenCallsKnown.{facts}
 use Rattle.cjc_verified_proof.proofs.TokenProofWrittenCallsWritten.{methods_fit}
 
 pub returns : goal.returns
-returns c = λ list files judged p is coded above m b.
+returns c = λ list files judged p is m b.
     let its = c.converted_files_are_sound.ensures in
     let classes = (let w = p.files in w.classes) in
     let typed = its.typed list files judged p is in
@@ -43,6 +43,5 @@ returns c = λ list files judged p is coded above m b.
     p laid is.sizes) (c.converted_packages_have_card_types.ensures list files judged p is) named in
     served_at list files judged p is (c.converted_packages_have_their_types.ensures.subtypes list files judged p is)
     described named (c.types_are_known.ensures list files judged p is) met has known
-    (c.converted_methods_begin.ensures list files judged p is) coded kept_files m b (λ id of over holds key. above m
-    b id
-    of holds key)
+    (c.converted_methods_begin.ensures list files judged p is) (c.exports_have_code.ensures list files judged p is)
+    kept_files m b (λ id of over holds key. c.calls_above_are_served.ensures list files judged p is m b id of holds key)

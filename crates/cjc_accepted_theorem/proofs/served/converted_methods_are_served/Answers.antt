@@ -7,6 +7,7 @@ use Rattle.cjc_theorem.proofs.ShapeProofFiles.{files_sound}
 pub returns : goal.returns
 returns c = λ list files judged p is m b. record {
   subtypes = c.converted_packages_have_their_types.ensures.subtypes list files judged p is;
+  few = c.converted_packages_have_their_types.ensures.few list files judged p is;
   arrays = c.types_of_arrays_agree.ensures (world p) (class_ref p);
   returned = b.result;
   exceptions = thrown list.name p (files_sound list files judged p is);
