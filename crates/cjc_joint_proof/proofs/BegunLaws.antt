@@ -55,7 +55,7 @@ use Rattle.cjc_joint_proof.specs.Memory.{AllBegin, First, all_cells, fields_in, 
 use Rattle.cjc_joint_proof.specs.Worlds.{AreApart}
 use Rattle.cjc_joint_proof.proofs.CellLaws.{Shows, shown_all}
 use Rattle.cjc_joint_proof.proofs.ImageLaws.{cells_move, cells_split}
-use Rattle.cjc_joint_proof.proofs.MemoryLaws.{images_begin}
+use Rattle.cjc_joint_proof.proofs.MemoryLaws.{cells_fit, images_begin}
 use Rattle.cjc_joint_proof.proofs.PackageNames.{package_is}
 
 -- ---- values fit wherever their arrays stand
@@ -261,24 +261,41 @@ mapped : (ps : List Package) → fields_in (map first_of ps) ≡ map statics_in 
 mapped [] = refl
 mapped (p ∷ ps) = ap (λ ss. statics_in p ∷ ss) (mapped ps)
 
+-- what all static cells hold at first by name is what each package's do, behind the arrays of those before
+cells_are : (packages : List Package) → AreBegun packages → AreApart (all_files packages)
+    → cells (joint_image (all_images packages)) (joint_classes (all_files packages)) ≡ all_cells 0 (map first_of
+    packages)
+cells_are packages begun apart =
+    let joint = joint_image (all_images packages) in
+    let moved = cells_from joint 0 packages (λ j p at. let z : arrays_before (all_images packages) j ≡ 0 + arrays_before
+    (all_images packages) j = omega arith in cells_move (all_files packages) (all_images packages) apart (own_fields
+    packages begun apart) j p.files p.image (its_files packages begun apart j p at) (get_mapped (λ (x : Package).
+    x.image) packages j ∙ ap (option_map (λ (x : Package). x.image)) at)
+    ∙ ap (λ m. map (cell_behind m) (cells p.image (let files = p.files in files.classes))) z) in
+    cells_split joint (all_files packages) ∙ moved
+
 pub statics_alike : (packages : List Package) → AreBegun packages → AreApart (all_files packages)
     → (let l = group_loaded (group_of packages) in first_images 0 l.parts)
     ≡ images_of (map statics_in packages) (map first_cell (cells (joint_image (all_images packages)) (joint_classes
     (all_files packages))))
 statics_alike packages begun apart =
     let l = group_loaded (group_of packages) in
-    let joint = joint_image (all_images packages) in
     let firsts = map first_of packages in
-    let moved = cells_from joint 0 packages (λ j p at. let z : arrays_before (all_images packages) j ≡ 0 + arrays_before
-    (all_images packages) j = omega arith in cells_move (all_files packages) (all_images packages) apart (own_fields
-    packages begun apart) j p.files p.image (its_files packages begun apart j p at) (get_mapped (λ (x : Package).
-    x.image) packages j ∙ ap (option_map (λ (x : Package). x.image)) at)
-    ∙ ap (λ m. map (cell_behind m) (cells p.image (let files = p.files in files.classes))) z) in
     loaded_from (group_of packages) l.trees 0 packages
     ∙ (images_begin 0 firsts (begin_each 0 packages begun) (have_cells packages begun apart)
-    ∙ (ap (λ xs. images_of (fields_in firsts) (map first_cell xs)) (sym (cells_split joint (all_files packages)
-    ∙ moved))
-    ∙ ap (λ ss. images_of ss (map first_cell (cells joint (joint_classes (all_files packages))))) (mapped packages)))
+    ∙ (ap (λ xs. images_of (fields_in firsts) (map first_cell xs)) (sym (cells_are packages begun apart))
+    ∙ ap (λ ss. images_of ss (map first_cell (cells (joint_image (all_images packages)) (joint_classes (all_files
+    packages))))) (mapped packages)))
+
+-- and each is one that its cell can hold
+pub statics_fit : (packages : List Package) → AreBegun packages → AreApart (all_files packages)
+    → are_cells (all_fields (map statics_in packages)) (map first_cell (cells (joint_image (all_images packages))
+    (joint_classes (all_files packages)))) ≡ true
+statics_fit packages begun apart =
+    ap (λ xs. are_cells (all_fields (map statics_in packages)) (map first_cell xs)) (cells_are packages begun apart)
+    ∙ ap (λ ss. are_cells (all_fields ss) (map first_cell (all_cells 0 (map first_of packages)))) (sym (mapped
+    packages))
+    ∙ cells_fit 0 (map first_of packages) (begin_each 0 packages begun)
 
 -- ---- arrays
 

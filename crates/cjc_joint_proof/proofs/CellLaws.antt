@@ -51,7 +51,7 @@ halves (f ∷ a) b (s ∷ cells) e =
       second = r.second;
     }
 
-joined : (a b : List MemberId) (front back : Cells) → are_cells a front ≡ true → are_cells b back ≡ true
+pub joined : (a b : List MemberId) (front back : Cells) → are_cells a front ≡ true → are_cells b back ≡ true
     → are_cells (a ++ b) (front ++ back) ≡ true
 joined [] b [] back e h = h
 joined [] b (s ∷ front) back e h = cc

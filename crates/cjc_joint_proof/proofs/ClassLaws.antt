@@ -1,19 +1,23 @@
 -- Classes of packages that are loaded together: each means the class of its name, whoever names it.
-use Rattle.std.proofs.Common.{◌≡◌, ℕ, zero, suc, ◌+◌, ◌≤◌, arith, refl, sym, ap, subst, ◌∙◌, Bool, true, false, List}
+use Rattle.std.proofs.Common.{◌≡◌, ℕ, zero, suc, ◌+◌, ◌≤◌, arith, refl, sym, ap, ◌∙◌, Bool, true, false, List}
 use Rattle.std.proofs.Common.{[]}
 use Rattle.std.proofs.Common.{◌∷◌, Some, None}
-use Rattle.std.specs.Prelude.{Option, flat_map, is_some, option_map, slice_get, unwrap_or}
+use Rattle.std.specs.Prelude.{Option, flat_map, option_map, slice_get, unwrap_or}
 use Rattle.cjc_token_proof.proofs.BytesGets.{get_mapped, mapped_at}
 use Rattle.cjc_token_proof.proofs.WrittenSends.Operations.{flat_from}
+use Rattle.cjc_card_semantics.specs.Bytes.AccessFlags.{is_interface}
+use Rattle.cjc_card_semantics.specs.ExportFile.declared.tree.ExportClass.{ExportClass}
 use Rattle.cjc_card_semantics.specs.ExportFile.declared.tree.ExportTree.{ExportTree}
 use Rattle.cjc_card_semantics.specs.Machine.Classes.{Class as CardClass, External, Own, class_named as class_on_card}
-use Rattle.cjc_card_semantics.specs.Machine.Classes.{class_of, external_from, number_named, or_else, token_named}
+use Rattle.cjc_card_semantics.specs.Machine.Classes.{class_of, external, external_from, external_named, number_named}
+use Rattle.cjc_card_semantics.specs.Machine.Classes.{or_else, token_named}
 use Rattle.cjc_card_semantics.specs.Machine.Classes.{with_token}
 use Rattle.cjc_card_semantics.specs.Machine.Loaded.{Loaded, Part}
 use Rattle.cjc_exported.specs.World.Classes.{Class, class_named, declared}
 use Rattle.cjc_exported.proofs.ExportLaws.Own.{own_class}
 use Rattle.cjc_exported.proofs.WorldCycles.{class_named-name}
 use Rattle.cjc_exported.specs.World.Files.{Files}
+use Rattle.cjc_exported.specs.Components.Class.{is_shareable}
 use Rattle.cjc_link_semantics.specs.Components.ExportFile.{export_of}
 use Rattle.cjc_link_semantics.specs.Components.Names.{class_ref}
 use Rattle.cjc_link_semantics.specs.Components.Package.{Package, world}
@@ -34,6 +38,7 @@ use Rattle.cjc_joint_proof.proofs.NameLaws.{class_in_file, class_inside, class_o
 use Rattle.cjc_joint_proof.proofs.OutsideLaws.{no_package, outside_kept, package_at}
 use Rattle.cjc_joint_proof.proofs.PackageNames.{package_is}
 use Rattle.cjc_joint_proof.proofs.ExportLaws.{exporting}
+use Rattle.cjc_joint_proof.proofs.FlagLaws.{interface_kept}
 use Rattle.cjc_joint_proof.proofs.LoadLaws.{external_at}
 use Rattle.cjc_joint_proof.proofs.ReferLaws.{imported_ref, offset_is, outside_ref, own_ref}
 
@@ -136,7 +141,7 @@ module _ (packages : List Package) (linked : AreLinked packages) where
       package_is (let f = p.files in f.package_name) c.name (k.of_package own)
 
   -- no package but its own has the name
-  name_elsewhere : (x : List ℕ) (r : ℕ) (part : Part) → slice_get l.parts r ≡ Some part
+  pub name_elsewhere : (x : List ℕ) (r : ℕ) (part : Part) → slice_get l.parts r ≡ Some part
       → ((m : Package) (d : Class) → slice_get packages r ≡ Some m → class_named (world m) x ≡ Some d
       → d.is_imported ≡ false → ⊥) → number_named part.classes x ≡ None
   name_elsewhere x r part at none =
@@ -179,7 +184,7 @@ module _ (packages : List Package) (linked : AreLinked packages) where
 
   -- ---- classes of export files of the group
 
-  number_of : (r : ℕ) (e : Package) → slice_get packages r ≡ Some e
+  pub number_of : (r : ℕ) (e : Package) → slice_get packages r ≡ Some e
       → package_number (group_of packages) (let t = export_of e in t.name) ≡ Some r
   number_of r e there =
       ap (package_number (group_of packages)) (linked.names r e there)
@@ -199,13 +204,13 @@ module _ (packages : List Package) (linked : AreLinked packages) where
   -- ---- export files from outside
 
   -- a file that a package imports
-  record Listing (u : ExportTree) : Type 0 where
-    part : ℕ
-    place : ℕ
-    «package» : Package
-    listed : IsListedBy packages part place «package» u
+  pub record Listing (u : ExportTree) : Type 0 where
+    pub part : ℕ
+    pub place : ℕ
+    pub «package» : Package
+    pub listed : IsListedBy packages part place «package» u
 
-  listing : (j : ℕ) (u : ExportTree) → slice_get (flat_map (λ (f : Files). f.exports) (files_together packages)) j
+  pub listing : (j : ℕ) (u : ExportTree) → slice_get (flat_map (λ (f : Files). f.exports) (files_together packages)) j
       ≡ Some u → Listing u
   listing j u at =
       let r = flat_from (λ (f : Files). f.exports) (files_together packages) j u at in
@@ -253,10 +258,16 @@ module _ (packages : List Package) (linked : AreLinked packages) where
           named = own_named q p here x c found own;
         }
 
-    -- one of a package that it imports
-    package_means : (h : HasEntry p c) (r : ℕ) (e : Package) → slice_get packages r ≡ Some e → h.tree ≡ export_of e
-        → Means q p x
-    package_means h r e there same =
+    -- one of a package that it imports: the class of its name there
+    pub record Exported (r : ℕ) (e : Package) : Type 0 where
+      pub class : Class
+      pub there : class_named (world e) x ≡ Some class
+      pub own : class.is_imported ≡ false
+      pub kind : is_interface c.flags ≡ is_interface class.flags
+
+    pub exported : (h : HasEntry p c) (r : ℕ) (e : Package) → slice_get packages r ≡ Some e → h.tree ≡ export_of e
+        → Exported r e
+    exported h r e there same =
         let s = sound_at r e there in
         let number = number_of r e there in
         let entry = h.entry in
@@ -274,43 +285,78 @@ module _ (packages : List Package) (linked : AreLinked packages) where
         let entry_name : entry.name ≡ c.name = sym (ap (λ (y : Class). y.name) h.class) in
         let called : t.name ≡ x = sym (ap (λ (y : Class). y.name) own.is) ∙ (w.name ∙ (entry_name ∙ name)) in
         record {
+          class = t;
+          there = ap (class_named (world e)) (sym called) ∙ known;
+          own = refl;
+          kind = ap (λ (y : Class). is_interface y.flags) h.class
+              ∙ ap (λ (y : ExportClass). is_interface y.flags) (sym w.written)
+              ∙ interface_kept d.flags (is_shareable (world e) d)
+              ∙ ap (λ (y : Class). is_interface y.flags) own.is;
+        }
+
+    package_means : (h : HasEntry p c) (r : ℕ) (e : Package) → slice_get packages r ≡ Some e → h.tree ≡ export_of e
+        → Means q p x
+    package_means h r e there same =
+        let s = sound_at r e there in
+        let o = exported h r e there same in
+        record {
           class = Own r (offset_in e x);
           ref = ap (λ y. class_of l q (class_ref p y)) (sym name) ∙ (imported_ref packages q p here r e there s.list
-              s.sound number c h same ∙ ap (λ y. Some (Own r (offset_in e y))) name);
-          named = own_named r e there x t (ap (class_named (world e)) (sym called) ∙ known) refl;
+              s.sound (number_of r e there) c h same ∙ ap (λ y. Some (Own r (offset_in e y))) name);
+          named = own_named r e there x o.class o.there o.own;
         }
 
     -- one from outside
-    file_means : (h : HasEntry p c) → is_of_group (files_together packages) (let t = h.tree in t.name) ≡ false
-        → Means q p x
-    file_means h out =
-        let t = h.tree in
-        let entry = h.entry in
-        let none = no_package (group_of packages) t.name out in
-        let kept_there = kept_at q p here c h out in
-        let z : h.file ≡ 0 + h.file = omega arith in
-        let token : token_named t.classes x ≡ Some entry.token = found_in_file 0 h.file (let files = p.files
-        in files.exports) h.tree x entry.token h.in_list (ap (external_from 0 (let files = p.files in files.exports))
-        (sym name) ∙ (h.found ∙ ap (λ m. Some (External m entry.token)) z)) in
-        record {
-          class = External (tree_number l.trees t.name) entry.token;
-          ref = ap (λ y. class_of l q (class_ref p y)) (sym name) ∙ outside_ref packages q p here c h none kept_there;
-          named = class_outside l x (λ r other at. name_elsewhere x r other at (λ m d there f own. imported_only d
-              (linked.no_own (tree_number l.trees t.name) r h.tree m d x entry.token kept_there token there f) own))
-              ∙ class_in_file l (tree_number l.trees t.name) h.tree x entry.token kept_there token (λ r u at apart.
-              no_file kept_there token r u at apart (token_named u.classes x) refl);
-        }
-      where
-        imported_only : (d : Class) → d.is_imported ≡ true → d.is_imported ≡ false → ⊥
-        imported_only d e f = let no : true ≡ false = sym e ∙ f in cc
+    module _ (h : HasEntry p c) (out : is_of_group (files_together packages) (let t = h.tree in t.name) ≡ false) where
+      abbrev pub number_in : ℕ
+      number_in = tree_number l.trees (let t = h.tree in t.name)
 
-        no_file : (let t = h.tree in slice_get l.trees (tree_number l.trees t.name) ≡ Some h.tree)
-            → (let t = h.tree in let entry = h.entry in token_named t.classes x ≡ Some entry.token) → (r : ℕ)
-            (u : ExportTree) → slice_get l.trees r ≡ Some u → (r ≡ (let t = h.tree in tree_number l.trees t.name) → ⊥)
-            → (o : Option ℕ) → token_named u.classes x ≡ o → o ≡ None
-        no_file kept_there token r u at apart None f = refl
-        no_file kept_there token r u at apart (Some b) f = absurd (apart (linked.one_file (let t = h.tree in tree_number
-            l.trees t.name) r h.tree u x (let entry = h.entry in entry.token) b kept_there at token f))
+      pub kept_in : slice_get l.trees number_in ≡ Some h.tree
+      kept_in = kept_at q p here c h out
+
+      pub token_in : (let t = h.tree in let entry = h.entry in token_named t.classes x ≡ Some entry.token)
+      token_in =
+          let entry = h.entry in
+          let z : h.file ≡ 0 + h.file = omega arith in
+          found_in_file 0 h.file (let files = p.files in files.exports) h.tree x entry.token h.in_list (ap
+          (external_from 0 (let files = p.files in files.exports)) (sym name)
+          ∙ (h.found ∙ ap (λ m. Some (External m entry.token)) z))
+
+      pub entry_in : (let entry = h.entry in external l number_in entry.token ≡ Some h.entry)
+      entry_in =
+          let entry = h.entry in
+          external_at l number_in entry.token (Some h.tree) kept_in
+          ∙ sym (external_at (loaded p) h.file entry.token (Some h.tree) h.in_list) ∙ h.there
+
+      pub found_in : (let entry = h.entry in external_named l x ≡ Some (External number_in entry.token))
+      found_in =
+          let entry = h.entry in
+          class_in_file l number_in h.tree x entry.token kept_in token_in (λ r u at apart. none r u at apart
+          (token_named u.classes x) refl)
+        where
+          none : (r : ℕ) (u : ExportTree) → slice_get l.trees r ≡ Some u → (r ≡ number_in → ⊥) → (o : Option ℕ)
+              → token_named u.classes x ≡ o → o ≡ None
+          none r u at apart None f = refl
+          none r u at apart (Some b) f = absurd (apart (linked.one_file number_in r h.tree u x (let entry = h.entry
+              in entry.token) b kept_in at token_in f))
+
+      pub named_in : (let entry = h.entry in class_on_card l x ≡ Some (External number_in entry.token))
+      named_in = class_outside l x (λ r other at. name_elsewhere x r other at (λ m d there f own. imported_only d
+          (linked.no_own number_in r h.tree m d x (let entry = h.entry in entry.token) kept_in token_in there f) own))
+          ∙ found_in
+        where
+          imported_only : (d : Class) → d.is_imported ≡ true → d.is_imported ≡ false → ⊥
+          imported_only d e f = let no : true ≡ false = sym e ∙ f in cc
+
+      file_means : Means q p x
+      file_means =
+          let t = h.tree in
+          let none = no_package (group_of packages) t.name out in
+          record {
+            class = External number_in (let entry = h.entry in entry.token);
+            ref = ap (λ y. class_of l q (class_ref p y)) (sym name) ∙ outside_ref packages q p here c h none kept_in;
+            named = named_in;
+          }
 
     means : Means q p x
     means = by c.is_imported refl

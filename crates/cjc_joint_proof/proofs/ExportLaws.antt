@@ -79,6 +79,7 @@ module _ (packages : List Package) (q r : ℕ) (p e : Package) (k token : ℕ) (
   pub record Exporting : Type 0 where
     pub class : Class
     pub name : class.name ≡ entry.name
+    pub written : export_class e class ≡ entry
     pub at : slice_get (exported_classes e) token ≡ Some class
     pub has : slice_get (exported_in (export e)) token ≡ Some (exported_class e class)
 
@@ -93,6 +94,7 @@ module _ (packages : List Package) (q r : ℕ) (p e : Package) (k token : ℕ) (
           record {
             class = c;
             name = ap (λ (x : ExportClass). x.name) same;
+            written = same;
             at = at;
             has = in_export e token ∙ ap (option_map (exported_class e)) at;
           }

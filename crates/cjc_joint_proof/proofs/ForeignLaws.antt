@@ -88,6 +88,26 @@ module _ (group : List Files) (apart : AreApart group) (out : AreApartFromOutsid
       by (Some x) g = let same : record { owner = imported k e; flags = x.flags } ≡ hit = cc in sym (ap (λ (y :
           ResolvedMember). y.owner) same)
 
+  -- where it is found in the joint world
+  pub foreign_hit_at : own_method false id.name id.desc (imported k e) ≡ Some f → (hit : ResolvedMember)
+      → method_hit (all_classes p) f ≡ Some hit → method_hit (all_classes (joint group)) (found_at n f)
+      ≡ Some (hit_at n hit)
+  foreign_hit_at own hit is =
+      let w = all_classes (joint group) in
+      let at = place_of (imported k e) id.name id.desc f own in
+      ap (λ g. method_hit w (found_at n g)) at.is
+      ∙ (foreign_hit at.place ∙ ap (option_map (hit_at n)) (ap (method_hit (all_classes p)) (sym at.is) ∙ is))
+
+  -- its class
+  pub foreign_owner : own_method false id.name id.desc (imported k e) ≡ Some f → (hit : ResolvedMember)
+      → method_hit (all_classes p) f ≡ Some hit → hit.owner ≡ imported k e
+  foreign_owner own hit is =
+      let at = place_of (imported k e) id.name id.desc f own in
+      owner_is hit at.place (ap (method_hit (all_classes p)) (sym at.is) ∙ is)
+
+  pub foreign_found : own_method false id.name id.desc (imported k e) ≡ Some f → f.imported ≡ true
+  foreign_found own = let at = place_of (imported k e) id.name id.desc f own in ap (λ (g : Found). g.imported) at.is
+
   pub foreign_call : own_method false id.name id.desc (imported k e) ≡ Some f
       → find_method (all_classes p) id.class id.name id.desc ≡ Some f → (hit : ResolvedMember)
       → method_hit (all_classes p) f ≡ Some hit → (holder : List ℕ) (op : ℕ)
@@ -96,17 +116,13 @@ module _ (group : List Files) (apart : AreApart group) (out : AreApartFromOutsid
       holder op id (found_at n f) (hit_at n hit)
   foreign_call own found hit is holder op =
       let w = all_classes (joint group) in
-      let at = place_of (imported k e) id.name id.desc f own in
-      let together : method_hit w (found_at n f) ≡ Some (hit_at n hit) = ap (λ g. method_hit w (found_at n g)) at.is
-      ∙ (foreign_hit at.place ∙ ap (option_map (hit_at n)) (ap (method_hit (all_classes p)) (sym at.is) ∙ is)) in
-      let owner = owner_is hit at.place (ap (method_hit (all_classes p)) (sym at.is) ∙ is) in
       ap (option_and_then (λ f. option_and_then (joint_call (joint group) w holder op id) (method_hit (all_classes p)
       f))) found
       ∙ (ap (option_and_then (joint_call (joint group) w holder op id)) is
       ∙ (ap (option_and_then (λ f. option_and_then (λ hit. call_by (joint group) w (selection_for w hit) holder op id f
-      hit) (method_hit w f))) (ap (λ d. joint_method w d id) owner ∙ foreign_method own)
+      hit) (method_hit w f))) (ap (λ d. joint_method w d id) (foreign_owner own hit is) ∙ foreign_method own)
       ∙ ap (option_and_then (λ hit. call_by (joint group) w (selection_for w hit) holder op id (found_at n f) hit))
-      together))
+      (foreign_hit_at own hit is)))
 
 -- ---- constants, whoever declares them
 

@@ -22,3 +22,17 @@ pub mod JointAlikeLaws
 pub mod JointCodeLaws
 pub mod TogetherLaws
 pub mod PlacedLaws
+pub mod FlagLaws
+pub mod ApartLaws
+pub mod StandLaws
+pub mod MeantLaws
+pub mod FieldedLaws
+pub mod TabledLaws
+pub mod KnownLaws
+pub mod CalledLaws
+pub mod StartedLaws
+pub mod RootedLaws
+pub mod LeadLaws
+pub mod FixedLaws
+pub mod OutwardLaws
+pub mod SharedLaws

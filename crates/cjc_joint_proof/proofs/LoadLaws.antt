@@ -68,7 +68,7 @@ module _ (group : List Member) (q : ℕ) (m : Member) (is : slice_get group q �
       }
 
   -- what a package token of the group's package means
-  import_at : (k : ℕ) (o : Option ExportTree) → (let files = m.files in slice_get files.exports k ≡ o)
+  pub import_at : (k : ℕ) (o : Option ExportTree) → (let files = m.files in slice_get files.exports k ≡ o)
       → import_of (group_loaded group) q k ≡ option_map (import_by group (let l = group_loaded group in l.trees)) o
   import_at k o e =
       let l = group_loaded group in

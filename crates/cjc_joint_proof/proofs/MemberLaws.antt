@@ -257,27 +257,24 @@ module _ (group : List Files) (apart : AreApart group) (i k : ℕ) (p : Files) (
       else own_method false id.name id.desc d)) (own_is_found group apart i k p c h)
       ∙ (own_method_moves n k c false id.name id.desc ∙ ap (option_map (found_in n)) own)
 
-  pub call_resolves : own_method false id.name id.desc (declared k c) ≡ Some f
-      → find_method (all_classes p) id.class id.name id.desc ≡ Some f → (hit : ResolvedMember) → method_hit (all_classes
-      p) f ≡ Some hit → (holder : List ℕ) (op : ℕ)
-      → call_from (joint group) (all_classes (joint group)) holder op id p
-      ≡ call_by (joint group) (all_classes (joint group)) (selection_for (all_classes (joint group)) (hit_in (before
-      group i) hit)) holder op id (found_in (before group i) f) (hit_in (before group i) hit)
-  call_resolves own found hit is holder op =
+  -- where it is found in the joint world
+  pub hit_together : own_method false id.name id.desc (declared k c) ≡ Some f → (hit : ResolvedMember)
+      → method_hit (all_classes p) f ≡ Some hit → method_hit (all_classes (joint group)) (found_in (before group i) f)
+      ≡ Some (hit_in (before group i) hit)
+  hit_together own hit is =
       let w = all_classes (joint group) in
       let n = before group i in
       let at = method_place k c false id.name id.desc f own in
-      let together : method_hit w (found_in n f) ≡ Some (hit_in n hit) = ap (λ g. method_hit w (found_in n g)) at.is
+      ap (λ g. method_hit w (found_in n g)) at.is
       ∙ (method_hit_moves group i k p c h listed at.place ∙ ap (option_map (hit_in n)) (ap (method_hit (all_classes p))
-      (sym at.is) ∙ is)) in
-      let owner : hit.owner ≡ declared k c = owned at.place (ap (method_hit (all_classes p)) (sym at.is) ∙ is) in
-      ap (option_and_then (λ f. option_and_then (joint_call (joint group) w holder op id) (method_hit (all_classes p)
-      f))) found
-      ∙ (ap (option_and_then (joint_call (joint group) w holder op id)) is
-      ∙ (ap (option_and_then (λ f. option_and_then (λ hit. call_by (joint group) w (selection_for w hit) holder op id f
-      hit) (method_hit w f))) (ap (λ d. joint_method w d id) owner ∙ method_resolves own)
-      ∙ ap (option_and_then (λ hit. call_by (joint group) w (selection_for w hit) holder op id (found_in n f) hit))
-      together))
+      (sym at.is) ∙ is))
+
+  -- its class
+  pub owner_is : own_method false id.name id.desc (declared k c) ≡ Some f → (hit : ResolvedMember)
+      → method_hit (all_classes p) f ≡ Some hit → hit.owner ≡ declared k c
+  owner_is own hit is =
+      let at = method_place k c false id.name id.desc f own in
+      owned at.place (ap (method_hit (all_classes p)) (sym at.is) ∙ is)
     where
       owned : (m : ℕ) → method_hit (all_classes p) (own_member k m) ≡ Some hit → hit.owner ≡ declared k c
       owned m e = go (slice_get (map method_of_class c.methods) (m - length (map field_of_class c.fields)))
@@ -289,3 +286,28 @@ module _ (group : List Files) (apart : AreApart group) (i k : ℕ) (p : Files) (
           go None e = cc
           go (Some x) e = let same : record { owner = declared k c; flags = x.flags } ≡ hit = cc in sym (ap (λ (y :
               ResolvedMember). y.owner) same)
+
+  -- the method itself
+  pub code_together : own_method false id.name id.desc (declared k c) ≡ Some f
+      → method_at (joint group) (found_in (before group i) f) ≡ method_at p f
+  code_together own =
+      let at = method_place k c false id.name id.desc f own in
+      ap (λ g. method_at (joint group) (found_in (before group i) g)) at.is
+      ∙ (method_stays group i k p c h at.place ∙ ap (method_at p) (sym at.is))
+
+  pub call_resolves : own_method false id.name id.desc (declared k c) ≡ Some f
+      → find_method (all_classes p) id.class id.name id.desc ≡ Some f → (hit : ResolvedMember) → method_hit (all_classes
+      p) f ≡ Some hit → (holder : List ℕ) (op : ℕ)
+      → call_from (joint group) (all_classes (joint group)) holder op id p
+      ≡ call_by (joint group) (all_classes (joint group)) (selection_for (all_classes (joint group)) (hit_in (before
+      group i) hit)) holder op id (found_in (before group i) f) (hit_in (before group i) hit)
+  call_resolves own found hit is holder op =
+      let w = all_classes (joint group) in
+      let n = before group i in
+      ap (option_and_then (λ f. option_and_then (joint_call (joint group) w holder op id) (method_hit (all_classes p)
+      f))) found
+      ∙ (ap (option_and_then (joint_call (joint group) w holder op id)) is
+      ∙ (ap (option_and_then (λ f. option_and_then (λ hit. call_by (joint group) w (selection_for w hit) holder op id f
+      hit) (method_hit w f))) (ap (λ d. joint_method w d id) (owner_is own hit is) ∙ method_resolves own)
+      ∙ ap (option_and_then (λ hit. call_by (joint group) w (selection_for w hit) holder op id (found_in n f) hit))
+      (hit_together own hit is)))

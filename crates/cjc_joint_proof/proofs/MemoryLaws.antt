@@ -12,11 +12,11 @@ use Rattle.cjc_card_semantics.specs.CapRead.declared.tree.StaticField.{StaticFie
 use Rattle.cjc_card_semantics.specs.Machine.Statics.{Image, first_image, number_bytes, objects_from}
 use Rattle.cjc_exported.specs.Narrow.Rows.Package.{first_cell}
 use Rattle.cjc_token_proof.specs.NCode.PoolOrder.{same_member}
-use Rattle.cjc_token_proof.specs.ByToken.Cells.{Order, bytes_of, image_of, letter, value_in, value_of}
-use Rattle.cjc_joint_proof.specs.Cells.{HaveCells, images_of}
+use Rattle.cjc_token_proof.specs.ByToken.Cells.{Order, are_cells, bytes_of, image_of, letter, value_in, value_of}
+use Rattle.cjc_joint_proof.specs.Cells.{HaveCells, all_fields, images_of}
 use Rattle.cjc_joint_proof.specs.Images.{cell_behind, value_behind}
 use Rattle.cjc_joint_proof.specs.Memory.{AllBegin, First, all_cells, fields_in, images_from, image_behind}
-use Rattle.cjc_joint_proof.proofs.CellLaws.{all_images, next_have}
+use Rattle.cjc_joint_proof.proofs.CellLaws.{all_images, joined, next_have}
 
 abbrev image_with : List Value → List ℕ → Image
 image_with references bytes = record { references = references; bytes = bytes }
@@ -113,3 +113,17 @@ images_begin n (p ∷ group) all have =
     ∙ (sym (all_images s (fields_in group) have (map first_cell (map (cell_behind n) p.cells)) (map first_cell
     (all_cells next group)) here.fit)
     ∙ ap (images_of (s ∷ fields_in group)) (sym (joined_cells (map (cell_behind n) p.cells) (all_cells next group)))))
+
+-- all cells can hold their values
+pub cells_fit : (n : ℕ) (group : List First) → AllBegin n group
+    → are_cells (all_fields (fields_in group)) (map first_cell (all_cells n group)) ≡ true
+cells_fit n [] all = refl
+cells_fit n (p ∷ group) all =
+    let s = p.fields in
+    let static = p.component in
+    let next = n + length static.array_inits in
+    let here = all.0 in
+    ap (are_cells (s.all ++ all_fields (fields_in group))) (joined_cells (map (cell_behind n) p.cells) (all_cells next
+    group))
+    ∙ joined s.all (all_fields (fields_in group)) (map first_cell (map (cell_behind n) p.cells)) (map first_cell
+    (all_cells next group)) here.fit (cells_fit next group all.1)

@@ -31,11 +31,11 @@ offset_is p c h = by (class_offset p c.name) (sym (ap (λ o. unwrap_or (or_else 
     by None e = cc
     by (Some n) e = cc
 
-info_there : (p : Package) (c : Class) → HasInfo p c → is_some (info_of (loaded p) 0 (offset_in p c.name)) ≡ true
+pub info_there : (p : Package) (c : Class) → HasInfo p c → is_some (info_of (loaded p) 0 (offset_in p c.name)) ≡ true
 info_there p c h = ap (λ o. is_some (info_of (loaded p) 0 o)) (offset_is p c h) ∙ ap is_some h.info
 
 -- a class that others may name has an info
-exported_info : (e : Package) (list : List ℕ) → IsSound list e.files → (k : ℕ) (d : Class)
+pub exported_info : (e : Package) (list : List ℕ) → IsSound list e.files → (k : ℕ) (d : Class)
     → slice_get (exported_classes e) k ≡ Some d → HasInfo e d
 exported_info e list s k d at =
     let own = own_class e k d at in

@@ -5,8 +5,8 @@ use Rattle.std.specs.Prelude.{Option, is_some, slice_get, unwrap_or, if◌then�
 use Rattle.std.specs.Str.{bytes_eq}
 use Rattle.cjc_token_proof.proofs.BytesLists.{bytes_true, name_is}
 use Rattle.cjc_card_semantics.specs.Bytes.declared.fault.MemberId.{MemberId}
-use Rattle.cjc_card_semantics.specs.Machine.Classes.{Class as CardClass, Own, class_of}
-use Rattle.cjc_card_semantics.specs.Machine.Loaded.{Loaded, Part}
+use Rattle.cjc_card_semantics.specs.Machine.Classes.{Own, class_of}
+use Rattle.cjc_card_semantics.specs.Machine.Loaded.{Loaded}
 use Rattle.cjc_card_semantics.specs.Machine.Operations.{static_cell, token_of}
 use Rattle.cjc_exported.proofs.WorldCycles.{class_named-name}
 use Rattle.cjc_exported.specs.Components.Methods.{placed_methods}
@@ -23,9 +23,6 @@ use Rattle.cjc_token_proof.proofs.TablesLaws.Named.{has_info, has_none}
 use Rattle.cjc_token_proof.specs.NCode.Lowering.Naming.{IsCell, IsClass, IsFixed, IsToken}
 use Rattle.cjc_token_proof.specs.NCode.Lowering.Package.{HoldsMethods}
 use Rattle.cjc_token_proof.specs.NCode.Lowering.Placed.{Placed}
-use Rattle.cjc_token_proof.specs.NCode.declared.narrow.NInsn.{NInsn}
-use Rattle.cjc_token_proof.specs.NCode.declared.narrow.NInsn.TheVariants as insns
-use Rattle.cjc_token_proof.specs.NCode.declared.narrow.PoolKey.TheVariants as keys
 use Rattle.cjc_token_proof.specs.Tables.Loading.{loaded, naming, part}
 use Rattle.cjc_token_proof.specs.Tables.Sound.{IsSound}
 use Rattle.cjc_joint_proof.specs.JointAlike.{AllHold, naming_at}
@@ -34,7 +31,7 @@ use Rattle.cjc_joint_proof.specs.JointPackages.{AreLinked, class_together, files
 use Rattle.cjc_joint_proof.specs.JointTogether.{IsOwnClass, NamesOwnFields, cell_together, field_together, methods_by}
 use Rattle.cjc_joint_proof.specs.JointTogether.{methods_together, names_by, naming_together, offset_by, token_by}
 use Rattle.cjc_joint_proof.specs.Loading.{AllLead, group_of, member_of}
-use Rattle.cjc_joint_proof.specs.Naming.{AreKept, HasEach, IsKept, Meant, meant_in, named_by}
+use Rattle.cjc_joint_proof.specs.Naming.{AreKept, HasEach, Meant, meant_in, named_by}
 use Rattle.cjc_joint_proof.proofs.ClassLaws.{class_means, home, package_is_at, part_at, placed, sound_at, together_at}
 use Rattle.cjc_joint_proof.proofs.ReferLaws.{of_package}
 use Rattle.cjc_joint_proof.proofs.LoadLaws.{has_each, is_part}
@@ -99,21 +96,21 @@ module _ (packages : List Package) (linked : AreLinked packages) where
         class_means packages linked q p here c k.0 k.1
 
     -- fields of its own classes are those of its place
-    at_home : (x : List ℕ) → IsOwnClass p x → place_of (files_together packages) x ≡ q
+    pub at_home : (x : List ℕ) → IsOwnClass p x → place_of (files_together packages) x ≡ q
     at_home x o =
         let name : (let c = o.class in c.name) ≡ x = class_named-name (world p) x o.class o.there in
         place_is (files_together packages) q p.files x (together_at packages linked q p here) (sym (home packages
         linked q p here x o.class o.there o.own) ∙ ap package_of name) (λ j g at same. package_is_at packages linked q
         p here j g at same)
 
-    package_at_home : (x : List ℕ) → IsOwnClass p x → slice_get packages (place_of (files_together packages) x)
+    pub package_at_home : (x : List ℕ) → IsOwnClass p x → slice_get packages (place_of (files_together packages) x)
         ≡ Some p
     package_at_home x o = ap (slice_get packages) (at_home x o) ∙ here
 
-    field_kept : (f : MemberId) → IsOwnClass p f.class → field_together packages f ≡ field_token p f
+    pub field_kept : (f : MemberId) → IsOwnClass p f.class → field_together packages f ≡ field_token p f
     field_kept f o = ap (λ x. token_by x f) (package_at_home f.class o)
 
-    cell_kept : (f : MemberId) → IsOwnClass p f.class → IsCell (named_by (naming p) meant) f
+    pub cell_kept : (f : MemberId) → IsOwnClass p f.class → IsCell (named_by (naming p) meant) f
     cell_kept f o =
         let s = sound_at packages linked q p here in
         let h = has_info s.list p s.sound o.class (has_named (world p) f.class o.class o.there) o.own in

@@ -209,7 +209,7 @@ joint_place (m ∷ group) (suc i) k p c h =
     ∙ (get_behind m.classes (joint_classes group) (before group i + k)
     ∙ joint_place group i k p c (record { member = h.member; file = h.file }))
 
-none_past : {A : Type 0} (xs : List A) (n : ℕ) → slice_get xs n ≡ None → length xs ≤ n
+pub none_past : {A : Type 0} (xs : List A) (n : ℕ) → slice_get xs n ≡ None → length xs ≤ n
 none_past [] n e = omega arith
 none_past (x ∷ xs) zero e = absurd cc
 none_past (x ∷ xs) (suc n) e = let le = none_past xs n e in omega (arith, le)

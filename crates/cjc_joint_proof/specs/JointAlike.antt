@@ -112,6 +112,27 @@ module _ (g : JointNaming) (placed : ℕ → List Placed) (memories : Memories) 
         → KnownThing (joint_names g memories) known (IsOfGroup g.loaded placed) KnownMethod kind
         → calls.sent kind id ≡ Some start → IsOfGroup g.loaded placed start.code
 
+module _ (g : JointNaming) (placed : ℕ → List Placed) (memories : Memories) (calls : JointCalls Placed)
+    (known : Knows (List ℕ) MemberId MemberId Cells) (KnownMethod : InPackage ByLabel.Callee → Type 0) where
+  -- Of this the part that dispatch has to say: how many words calls take, what they reach, and what scripts send.
+  pub record JointReachAgree : Type 0 where
+    pub words : (m : InPackage ByLabel.Callee) (w : ℕ) → KnownMethod m → calls.words m ≡ Some w
+        → Calls.words g.loaded (callee_at g m) ≡ Some w
+    pub reached : (m : InPackage ByLabel.Callee) (o : Option (Shape (List ℕ))) (r : Reached (InPackage Placed))
+        → KnownMethod m → KnownKind (joint_names g memories) known (IsOfGroup g.loaded placed) KnownMethod o
+        → calls.reached m o ≡ r → IsFound r
+        → Calls.reached g.loaded (callee_at g m) (option_as (shape_as g.class) o)
+        ≡ reached_as (code_at g) (offset_at g) r
+    pub reached_known : (m : InPackage ByLabel.Callee) (o : Option (Shape (List ℕ))) (start : Start (InPackage Placed))
+        → KnownMethod m → KnownKind (joint_names g memories) known (IsOfGroup g.loaded placed) KnownMethod o
+        → calls.reached m o ≡ Within start → IsOfGroup g.loaded placed start.code
+    pub sent : (kind : Shape (List ℕ)) (id : MemberId) → KnownThing (joint_names g memories) known (IsOfGroup g.loaded
+        placed) KnownMethod kind → Calls.sent g.loaded (shape_as g.class kind) id
+        ≡ option_as (start_as (code_at g) (offset_at g)) (calls.sent kind id)
+    pub sent_known : (kind : Shape (List ℕ)) (id : MemberId) (start : Start (InPackage Placed))
+        → KnownThing (joint_names g memories) known (IsOfGroup g.loaded placed) KnownMethod kind
+        → calls.sent kind id ≡ Some start → IsOfGroup g.loaded placed start.code
+
 -- a call that passes this test
 abbrev pub IsCalled : (InPackage ByLabel.Callee → Bool) → InPackage ByLabel.Callee → Type 0
 IsCalled called m = called m ≡ true

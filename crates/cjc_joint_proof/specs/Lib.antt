@@ -14,3 +14,5 @@ pub mod Parts
 pub mod Sound
 pub mod Towers
 pub mod Worlds
+pub mod JointTables
+pub mod JointCalled

@@ -8,6 +8,9 @@ use Rattle.cjc_card_semantics.specs.Machine.Operations.{unbound_of}
 use Rattle.cjc_card_semantics.specs.ExportFile.declared.tree.ExportClass.{ExportClass}
 use Rattle.cjc_card_semantics.specs.ExportFile.declared.tree.ExportMethod.{ExportMethod}
 use Rattle.cjc_card_semantics.specs.ExportFile.declared.tree.ExportTree.{ExportTree}
+use Rattle.cjc_exported.specs.World.Classes.{Class}
+use Rattle.cjc_link_semantics.specs.Components.ExportFile.{export_class}
+use Rattle.cjc_link_semantics.specs.Components.Exports.{exported_class, exported_classes}
 use Rattle.cjc_link_semantics.specs.Components.Names.{class_offset}
 use Rattle.cjc_link_semantics.specs.Components.Package.{Package, has_applets}
 use Rattle.cjc_link_semantics.specs.Components.Paired.Naming.{loaded_of}
@@ -56,3 +59,10 @@ group_of packages = map member_of packages
 -- where the class of a name stands in its package
 abbrev pub offset_in : Package → (name : List ℕ) → ℕ
 offset_in p name = unwrap_or (class_offset p name) 0
+
+-- Export has each static method and constructor that the export file of the package lists, by its token.
+abbrev pub ListsMethods : Package → Type 0
+ListsMethods p =
+    (k t : ℕ) (c : Class) (m : ExportMethod) → slice_get (exported_classes p) k ≡ Some c
+    → (let e = export_class p c in unbound_of e.methods t ≡ Some m) → (offset : ℕ)
+    × (let x = exported_class p c in slice_get x.methods t ≡ Some offset)

@@ -11,7 +11,7 @@ ghost use Rattle.cjc_token_proof.specs.WrittenCalls.Standing.{AreReady};
 ghost use Rattle.cjc_joint_proof.specs.JointAlike.{AllHold};
 ghost use Rattle.cjc_joint_proof.specs.JointPackages.{AreLinked, class_together};
 ghost use Rattle.cjc_joint_proof.specs.JointTogether.{NamesOwnFields, methods_together, naming_together};
-ghost use Rattle.cjc_joint_proof.specs.Loading.{AllLead, group_of, member_of};
+ghost use Rattle.cjc_joint_proof.specs.Loading.{AllLead, ListsMethods, group_of, member_of};
 
 use cjc_token_proof::written_calls::methods_stand;
 
@@ -24,6 +24,14 @@ pub fn classes_mean_their_names()
     ensures names { (packages : List Package) → AreLinked packages → (q : ℕ) (p : Package)
         → slice_get packages q ≡ Some p → (x : List ℕ) (c : Class) → class_named (world p) x ≡ Some c
         → class_on_card (group_loaded (group_of packages)) x ≡ Some (class_together packages x) }
+{}
+
+/// Imports of packages that link with one another lead to what their export files describe, where Export of each has the
+/// static methods and constructors that its export file lists.
+pub fn linked_imports_lead()
+    ensures { (packages : List Package) → AreLinked packages
+        → ((q : ℕ) (p : Package) → slice_get packages q ≡ Some p → ListsMethods p) → (q : ℕ) (p : Package)
+        → slice_get packages q ≡ Some p → AllLead (group_of packages) (member_of p) }
 {}
 
 /// Packages that can be laid out, whose imports lead to what they describe and whose code names fields of its own

@@ -3,6 +3,7 @@
 #![tactic(auto)]
 
 pub mod above;
+pub mod calls;
 pub mod cells;
 pub mod classes;
 pub mod code;
@@ -14,5 +15,7 @@ pub mod memory;
 pub mod names;
 pub mod naming;
 pub mod parts;
+pub mod runs;
+pub mod tables;
 pub mod towers;
 pub mod worlds;

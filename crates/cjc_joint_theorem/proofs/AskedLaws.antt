@@ -9,7 +9,7 @@ use Rattle.cjc_script.specs.Sorts.{Element, Shape, OfClass, OfNumbers, OfReferen
 use Rattle.cjc_script.specs.declared.script.Script.{Script}
 use Rattle.cjc_script.specs.declared.report.Outcome.TheVariants.{Stuck}
 use Rattle.cjc_script.specs.declared.report.Report.{Report}
-use Rattle.cjc_card_semantics.specs.Bytecode.Effects.{Arm, HeapObject, Slot, Do, Branch, Pick, Touch, Get, Put}
+use Rattle.cjc_card_semantics.specs.Bytecode.Effects.{Arm, Slot, Do, Branch, Pick, Touch, Get, Put}
 use Rattle.cjc_card_semantics.specs.Bytecode.Effects.{GetStatic}
 use Rattle.cjc_card_semantics.specs.Bytecode.Effects.{PutStatic, Call, New, NewNumbers, NewReferences, Cast, Ask}
 use Rattle.cjc_card_semantics.specs.Bytecode.Effects.{Undone}
@@ -22,7 +22,7 @@ use Rattle.cjc_card_semantics.specs.Bytecode.Renaming.{AreAlike, KnownShape, Kno
 use Rattle.cjc_card_semantics.specs.Bytecode.Renaming.{one_thing, numbers_known, object_known}
 use Rattle.cjc_card_semantics.specs.Bytecode.Machine.{Fetched, Reached, Start, Within, Abroad, Nowhere}
 use Rattle.cjc_card_semantics.specs.Bytecode.Machine
-use Rattle.cjc_card_semantics.specs.Bytecode.Alike.{Names, SettingsAlike, MissesAlike, KnownState, no_frames, IsFree}
+use Rattle.cjc_card_semantics.specs.Bytecode.Alike.{Names, SettingsAlike, MissesAlike, KnownState, no_frames}
 use Rattle.cjc_card_semantics.specs.Bytecode.Alike.{start_as, reached_as, fetched_as, state_as}
 use Rattle.cjc_card_semantics.proofs.BytecodeLaws.Together.{runs_agree, runs_stick_alike}
 use Rattle.cjc_world.specs.Files.{Files}
@@ -37,12 +37,12 @@ use Rattle.cjc_ncode.specs.declared.narrow.NInsn.TheVariants as insns
 use Rattle.cjc_ncode.specs.declared.narrow.NMethod.{NMethod}
 use Rattle.cjc_ncode.specs.declared.narrow.PoolKey.{PoolKey}
 use Rattle.cjc_ncode.specs.declared.narrow.PoolKey.TheVariants as keys
-use Rattle.cjc_ncode.specs.ByLabel.{Callee, Fixed, OnObject, OnSuper, OnInterface, Named, Resolved, by_label, classes}
+use Rattle.cjc_ncode.specs.ByLabel.{Callee, Fixed, OnObject, OnSuper, OnInterface, Resolved, by_label}
 use Rattle.cjc_ncode.specs.ByLabel.{arm_of, ranged, operation, plain, jumping, switching, naming, using, call_if}
 use Rattle.cjc_ncode.specs.ByLabel.{calling, testing}
 use Rattle.cjc_ncode.specs.ByLabel.{type_by, making, element_type, fetch, handler, takes, on_object, put_static}
 use Rattle.cjc_ncode.specs.Lowering.Agreement.{Cells}
-use Rattle.cjc_ncode.proofs.LoweringLaws.ByCode.{option_stays, shape_stays, kind_stays}
+use Rattle.cjc_ncode.proofs.LoweringLaws.ByCode.{option_stays, shape_stays}
 use Rattle.cjc_jvm_semantics.specs.Linked.{Method, Inside}
 use Rattle.cjc_jvm_semantics.specs.Linked
 use Rattle.cjc_jvm_semantics.specs.OnePackage.{ResolvedMember, entry_named}
@@ -51,8 +51,8 @@ use Rattle.cjc_narrow.specs.Rows.Package.{first_array, start_of, reached_by, wor
 use Rattle.cjc_joint_proof.specs.JointCode.{InPackage, JointOperation, of_package, operation_in, fetched_in}
 use Rattle.cjc_joint_proof.specs.JointCode.{by_label_in}
 use Rattle.cjc_joint_proof.specs.JointCode as joint_code
-use Rattle.cjc_joint_proof.specs.JointNames.{place_of, hit_for, direct, selected, above, by_interface, selected_on}
-use Rattle.cjc_joint_proof.specs.JointNames.{on_class, callee_for, words_for, start_for, reached_for, joint_named}
+use Rattle.cjc_joint_proof.specs.JointNames.{place_of, hit_for, direct, selected, above, by_interface}
+use Rattle.cjc_joint_proof.specs.JointNames.{callee_for, words_for, start_for, reached_for, joint_named}
 use Rattle.cjc_joint_proof.specs.JointNames.{joint_labels}
 use Rattle.cjc_joint_theorem.specs.Asked.{asked_by, key_by, callee_by, insn_by, code_by, group_named}
 use Rattle.cjc_joint_theorem.specs.Asked as asked

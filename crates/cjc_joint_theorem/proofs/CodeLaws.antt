@@ -14,13 +14,13 @@ use Rattle.cjc_code.specs.Jvm as jvm
 use Rattle.cjc_ncode.specs.declared.narrow.NCase.{NCase}
 use Rattle.cjc_ncode.specs.declared.narrow.NCatch.{NCatch}
 use Rattle.cjc_ncode.specs.declared.narrow.NInsn.{NInsn}
-use Rattle.cjc_ncode.specs.declared.narrow.NInsn.TheVariants.{Op, Push, Local, Words, Interface}
+use Rattle.cjc_ncode.specs.declared.narrow.NInsn.TheVariants.{Op}
 use Rattle.cjc_ncode.specs.declared.narrow.NMethod.{NMethod}
 use Rattle.cjc_ncode.specs.declared.narrow.PairRole.{PairRole}
 use Rattle.cjc_ncode.specs.declared.narrow.PairRole.TheVariants.{Alone, Opens, Closes}
-use Rattle.cjc_ncode.specs.Written.{Resolution, pushed_word, pushed, local, on_stack, switched, static_by, called}
+use Rattle.cjc_ncode.specs.Written.{Resolution, pushed_word, pushed, local, on_stack, switched, static_by}
 use Rattle.cjc_ncode.specs.Written.{call_by}
-use Rattle.cjc_ncode.specs.Written.{type_test, written, Access, accessed, is_load, written_open, on_this, written_as}
+use Rattle.cjc_ncode.specs.Written.{type_test, written, Access, accessed, is_load, on_this, written_as}
 use Rattle.cjc_ncode.specs.Written.{written_for, place_in, reached, catches_at, narrow_code, sources, widest_sum}
 use Rattle.cjc_ncode.specs.Written.{low_of, pair_cases, table_cases, narrow_method}
 use Rattle.cjc_card_semantics.specs.CapRead.Card as card

@@ -3,3 +3,4 @@ pub mod CodeLaws
 pub mod RuleLaws
 pub mod TogetherLaws
 pub mod MembersLaws
+pub mod OrderedLaws

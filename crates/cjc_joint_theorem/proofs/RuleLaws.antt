@@ -1,13 +1,12 @@
 -- What breaks none of 501 to 503 among the classes of one world breaks none where more types are subtypes.
-use Rattle.std.proofs.Common.{◌≡◌, ℕ, ◌+◌, ◌-◌, Bool, true, false, ◌&&◌, ◌||◌, not, List, [], ◌∷◌, length, Some, refl}
+use Rattle.std.proofs.Common.{◌≡◌, ℕ, ◌+◌, ◌-◌, Bool, true, false, ◌&&◌, ◌||◌, not, List, [], ◌∷◌, length, refl}
 use Rattle.std.proofs.Common.{sym, ap, subst, ◌∙◌}
-use Rattle.std.specs.Prelude.{◌==◌, nat_lt, get_or, slice_get, Option, if◌then◌else◌}
+use Rattle.std.specs.Prelude.{◌==◌, nat_lt, get_or, Option, if◌then◌else◌}
 use Rattle.std.specs.List.{list_all}
 use Rattle.cjc_bytes.specs.Descriptor.{Part}
 use Rattle.cjc_bytes.specs.declared.descriptor.Kind.{Kind}
 use Rattle.cjc_bytes.specs.declared.descriptor.Kind.TheVariants as kinds
 use Rattle.cjc_bytes.specs.declared.fault.MemberId.{MemberId}
-use Rattle.cjc_code.specs.declared.insn.JInsn.{JInsn}
 use Rattle.cjc_code.specs.declared.insn.JOp.{JOp}
 use Rattle.cjc_code.specs.declared.insn.JOp.TheVariants as jop
 use Rattle.cjc_world.specs.Classes.{Class}
@@ -24,10 +23,10 @@ use Rattle.cjc_types.specs.Steps.{takes}
 use Rattle.cjc_types.specs.Flow.{Body}
 use Rattle.cjc_types.specs.Rules.{names_private, is_of, is_value, is_value_of, is_argument, receiver_class}
 use Rattle.cjc_types.specs.Rules.{is_field_operand, throwable}
-use Rattle.cjc_types.specs.Rules.{accepts, has_wrong, has_wrong_local, is_wrong_return, is_wrong, Breaks}
+use Rattle.cjc_types.specs.Rules.{accepts, has_wrong, has_wrong_local, is_wrong_return, Breaks}
 use Rattle.cjc_types.specs.Rules.{clash, wrong, off}
 use Rattle.cjc_types.specs.Tables.{Breach}
-use Rattle.cjc_joint_theorem.specs.Rules.{SupersStay, CallsStay, SpecialsStay}
+use Rattle.cjc_joint_theorem.specs.Rules.{SupersStay, CallsStay, SpecialFits, SpecialsFit, SpecialsStay}
 
 never : false ≡ true → ⊥
 never e = cc
@@ -201,3 +200,33 @@ module _ (v w : List Class) (b : Body) (rows : List (Option State)) (specials : 
           let same = number_same opcode jvm.invokespecial e in
           subst (λ n. is_subtype w (receiver_class v b n id) (receiver_class w b n id) ≡ true) (sym same)
           (specials place i id x at row (is ∙ ap (λ n. jop.Call n id) same) f)
+
+-- ---- and what that takes in a package's own world it takes among more classes
+
+special_class : (u : List Class) (b : Body) (id : MemberId) → is_constructor id.name ≡ false → (p : Bool)
+    → names_private u id ≡ p → receiver_class u b jvm.invokespecial id ≡ (if p then id.class else b.class)
+special_class u b id plain p e = ap (λ t. if true && not t && not (names_private u id) then b.class else id.class) plain
+    ∙ ap (λ t. if true && not t then b.class else id.class) e ∙ by p
+  where
+    by : (p : Bool) → (if true && not p then b.class else id.class) ≡ (if p then id.class else b.class)
+    by true = refl
+    by false = refl
+
+module _ (v w : List Class) (stays : SupersStay v w) (b : Body) (rows : List (Option State)) where
+  pub specials_are : SpecialsFit v b rows → SpecialsStay v w b rows
+  specials_are fit place i id x at row is plain = by (names_private v id) refl (names_private w id) refl
+      (fit place i id x at row is plain)
+    where
+      by : (p : Bool) → names_private v id ≡ p → (r : Bool) → names_private w id ≡ r → SpecialFits v b id
+          → is_subtype w (receiver_class v b jvm.invokespecial id) (receiver_class w b jvm.invokespecial id) ≡ true
+      by p e r f one =
+          ap (λ y. is_subtype w y (receiver_class w b jvm.invokespecial id)) (special_class v b id plain p e)
+          ∙ ap (is_subtype w (if p then id.class else b.class)) (special_class w b id plain r f)
+          ∙ below p e r
+        where
+          below : (p : Bool) → names_private v id ≡ p → (r : Bool)
+              → is_subtype w (if p then id.class else b.class) (if r then id.class else b.class) ≡ true
+          below true e true = reflexive w id.class
+          below true e false = stays id.class b.class (one.private_one e)
+          below false e true = stays b.class id.class (one.above_holder e)
+          below false e false = reflexive w b.class

@@ -1,6 +1,6 @@
 -- What narrow code of several packages that run together names: each call by the package that asks, in whose own world
 -- the member is looked up, and what is found there stands for the joint world's.
-use Rattle.std.specs.Prelude.{ℕ, List, [], ◌∷◌, map, slice_get, Option, Some, None, option_map, option_and_then, Bool}
+use Rattle.std.specs.Prelude.{ℕ, List, [], ◌∷◌, map, slice_get, Option, Some, None, option_map, option_and_then}
 use Rattle.std.specs.Prelude.{true}
 use Rattle.std.specs.Prelude.{false, if◌then◌else◌}
 use Rattle.cjc_bytes.specs.declared.fault.MemberId.{MemberId}

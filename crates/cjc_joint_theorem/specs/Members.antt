@@ -4,8 +4,11 @@ use Rattle.cjc_bytes.specs.declared.fault.MemberId.{MemberId}
 use Rattle.cjc_world.specs.Files.{Files}
 use Rattle.cjc_world.specs.Classes.{all_classes}
 use Rattle.cjc_world.specs.declared.image.StaticImage.{StaticImage}
+use Rattle.cjc_code.specs.declared.insn.JInsn.{JInsn}
 use Rattle.cjc_code.specs.declared.insn.JOp.{JOp}
 use Rattle.cjc_types.specs.declared.cell.Cell.{Cell}
+use Rattle.cjc_types.specs.Fixpoint.Tables.{HasRow}
+use Rattle.cjc_types.specs.Search.{cells_of}
 use Rattle.cjc_types.specs.declared.state.State.{State}
 use Rattle.cjc_narrow_proof.specs.LowerIntervals.Frames.{RangeState}
 use Rattle.cjc_jvm_semantics.specs.Linked.{Method}
@@ -107,10 +110,11 @@ module _ {files : Files} {image : StaticImage} {near : List MemberId} {tables : 
 
 -- such names in reached instructions stand for what the joint world has
 abbrev pub StandTogether : List Member → Type 0
-StandTogether members = (q : ℕ) (p : Member) → slice_get members q ≡ Some p → (m : Method) → HasTables p.files
-    p.tables m
-    → (stack : List Cell) (op : JOp) (h : IsNamed p.files p.image p.near p.tables m stack op) → IsLeft h
-    → IsNamedIn (files_of members) (joint_image (images_of members)) (homes_of members) (tables_of members) m stack op
+StandTogether members = (p : Member) (m : Method) → member_of members m ≡ Some p → (at : ℕ) (i : JInsn) (t : State)
+    → slice_get m.insns at ≡ Some i → HasRow (let s = p.tables in s.types m) at t
+    → (h : IsNamed p.files p.image p.near p.tables m (cells_of t.stack) i.op) → IsLeft h
+    → IsNamedIn (files_of members) (joint_image (images_of members)) (homes_of members) (tables_of members) m
+    (cells_of t.stack) i.op
 
 -- each member of a script is one that methods with tables are found for, or none
 abbrev pub AreScripted : List Member → Type 0

@@ -10,7 +10,7 @@ use Rattle.cjc_world.specs.Classes.{Class}
 use Rattle.cjc_world.specs.Subtype.{is_subtype}
 use Rattle.cjc_types.specs.declared.state.State.{State}
 use Rattle.cjc_types.specs.Flow.{Body}
-use Rattle.cjc_types.specs.Rules.{receiver_class}
+use Rattle.cjc_types.specs.Rules.{names_private, receiver_class}
 
 -- a subtype stays one
 abbrev pub SupersStay : List Class → List Class → Type 0
@@ -28,3 +28,15 @@ abbrev pub SpecialsStay : List Class → List Class → Body → List (Option St
 SpecialsStay v w b rows = (place : ℕ) (i : JInsn) (id : MemberId) (x : State) → slice_get b.insns place ≡ Some i
     → HasRow rows place x → i.op ≡ jop.Call jvm.invokespecial id → is_constructor id.name ≡ false
     → is_subtype w (receiver_class v b jvm.invokespecial id) (receiver_class w b jvm.invokespecial id) ≡ true
+
+-- 206 of a reached invokespecial of what is no constructor: a private method is of the class that holds the code, so
+-- the class that is named is that class or one below it; else the class that holds the code is below the one that is
+-- named.
+pub record SpecialFits (v : List Class) (b : Body) (id : MemberId) : Type 0 where
+  pub private_one : names_private v id ≡ true → is_subtype v id.class b.class ≡ true
+  pub above_holder : names_private v id ≡ false → is_subtype v b.class id.class ≡ true
+
+-- each is such
+abbrev pub SpecialsFit : List Class → Body → List (Option State) → Type 0
+SpecialsFit v b rows = (place : ℕ) (i : JInsn) (id : MemberId) (x : State) → slice_get b.insns place ≡ Some i
+    → HasRow rows place x → i.op ≡ jop.Call jvm.invokespecial id → is_constructor id.name ≡ false → SpecialFits v b id

@@ -4,6 +4,7 @@
 
 pub mod asked;
 pub mod members;
+pub mod ordered;
 pub mod rules;
 pub mod solid;
 pub mod together;

@@ -1,5 +1,5 @@
 -- What the images of several packages say together is of sound types.
-use Rattle.std.proofs.Common.{◌≡◌, ℕ, zero, suc, ◌+◌, arith, true, List, [], ◌∷◌, ◌++◌, map, flat_map, length, Option}
+use Rattle.std.proofs.Common.{◌≡◌, ℕ, zero, suc, ◌+◌, arith, true, List, [], ◌∷◌, ◌++◌, map, flat_map, length}
 use Rattle.std.proofs.Common.{Some}
 use Rattle.std.proofs.Common.{refl, sym, ap, subst, ◌∙◌}
 use Rattle.std.specs.Prelude.{slice_get, option_map}
@@ -11,23 +11,21 @@ use Rattle.cjc_script.specs.declared.value.Value.{Value}
 use Rattle.cjc_script.specs.declared.report.FieldValue.{FieldValue}
 use Rattle.cjc_script.specs.Sorts.{Sort, Shape, shape_name, field_sort}
 use Rattle.cjc_card_semantics.specs.Bytecode.Effects.{HeapObject, Slot, shape}
-use Rattle.cjc_world.specs.Classes.{Class, all_classes}
 use Rattle.cjc_world.specs.Files.{Files}
 use Rattle.cjc_world.specs.declared.image.ArrayCell.{ArrayCell}
 use Rattle.cjc_world.specs.declared.image.StaticImage.{StaticImage}
 use Rattle.cjc_ncode.specs.ByLabel.{Named}
 use Rattle.cjc_jvm_semantics.specs.OnePackage.{cells}
-use Rattle.cjc_jvm_semantics.specs.Group.{joint, joint_image, joint_classes}
-use Rattle.cjc_narrow.specs.Rows.Package.{first_array, first_cell, first_memory, named}
+use Rattle.cjc_jvm_semantics.specs.Group.{joint, joint_image}
+use Rattle.cjc_narrow.specs.Rows.Package.{first_array, first_cell, named}
 use Rattle.cjc_narrow_proof.specs.Selection.Relation.{Heap, CellFits, a_boolean, a_byte, a_short, an_int, a_null}
 use Rattle.cjc_narrow_proof.specs.Selection.Relation.{an_object, SlotsFit, no_slots, slot}
-use Rattle.cjc_narrow_proof.specs.Runs.Converted.{IsFirst, IsFirstArray, IsConverted}
-use Rattle.cjc_narrow_proof.specs.Runs.Tables.{Tables, look_ups}
+use Rattle.cjc_narrow_proof.specs.Runs.Converted.{IsFirst, IsFirstArray}
+use Rattle.cjc_narrow_proof.specs.Runs.Tables.{look_ups}
 use Rattle.cjc_joint_proof.specs.Images.{arrays_before, cell_behind, value_behind}
 use Rattle.cjc_joint_proof.proofs.ImageLaws.{cells_move, cells_split}
 use Rattle.cjc_joint_theorem.specs.Asked.{group_named}
-use Rattle.cjc_joint_theorem.specs.Rules.{SupersStay}
-use Rattle.cjc_joint_theorem.specs.Together.Homes.{group_look_ups, joint_world}
+use Rattle.cjc_joint_theorem.specs.Together.Homes.{group_look_ups}
 use Rattle.cjc_joint_theorem.specs.Members.{Member, files_of, images_of, homes_of, tables_of, AreMembers}
 use Rattle.cjc_joint_theorem.proofs.MembersLaws.Worlds.{are_apart, supers_stay, member_at, files_at}
 

@@ -1,23 +1,18 @@
 -- Packages that were converted by themselves are what is asked of packages together.
-use Rattle.std.proofs.Common.{◌≡◌, ℕ, Bool, List, Option, Some, None, refl, ap}
+use Rattle.std.proofs.Common.{◌≡◌, ℕ, List, Option, Some, None, refl, ap}
 use Rattle.std.specs.Prelude.{slice_get}
-use Rattle.cjc_bytes.specs.declared.fault.MemberId.{MemberId}
-use Rattle.cjc_code.specs.declared.insn.JInsn.{JInsn}
-use Rattle.cjc_types.specs.declared.state.State.{State}
-use Rattle.cjc_types.specs.Fixpoint.Tables.{HasRow}
 use Rattle.cjc_types.specs.Search.{cells_of}
-use Rattle.cjc_world.specs.Files.{Files}
 use Rattle.cjc_jvm_semantics.specs.Linked.{Method}
 use Rattle.cjc_script.specs.declared.script.Script.{Script}
 use Rattle.cjc_card_semantics.specs.Bytecode.Runs.{Agree}
 use Rattle.cjc_jvm_semantics.specs.Group.{joint_image, run_group}
 use Rattle.cjc_joint_proof.specs.JointCode as in_packages
 use Rattle.cjc_joint_proof.specs.JointNames.{joint_named, joint_labels}
-use Rattle.cjc_joint_theorem.specs.Together.Homes.{Home, HasTablesIn, own_codes}
-use Rattle.cjc_joint_theorem.specs.Together.Names.{AreNamedIn, IsNamedIn}
+use Rattle.cjc_joint_theorem.specs.Together.Homes.{Home, own_codes}
+use Rattle.cjc_joint_theorem.specs.Together.Names.{AreNamedIn}
 use Rattle.cjc_joint_theorem.specs.Together.Converted.{AreConverted}
 use Rattle.cjc_joint_theorem.specs.Members.{Member, files_of, images_of, homes_of, tables_of, number_of, member_of}
-use Rattle.cjc_joint_theorem.specs.Members.{home_by, types_by, AreMembers, StandTogether, AreScripted}
+use Rattle.cjc_joint_theorem.specs.Members.{home_by, AreMembers, StandTogether, AreScripted}
 use Rattle.cjc_joint_theorem.proofs.TogetherLaws.Runs.{runs_in_packages}
 use Rattle.cjc_joint_theorem.proofs.MembersLaws.Worlds.{class_names, exceptions}
 use Rattle.cjc_joint_theorem.proofs.MembersLaws.Methods.{methods, row_of}
@@ -33,7 +28,7 @@ module _ (members : List Member) (is : AreMembers members) (rest : StandTogether
       let one = is.each q r.0 r.1 in
       let has = one.methods m at t r.2 in
       named_in members is q r.0 r.1 m (ap (λ (h : Home). h.files) (ap (home_by q) r.1)) (cells_of t.stack)
-      (λ op h left. rest q r.0 r.1 m has (cells_of t.stack) op h left) i.op (one.named m has at i t insn r.2)
+      i.op (λ h left. rest r.0 m r.1 at i t insn r.2 h left) (one.named m has at i t insn r.2)
 
   pub are_converted : (first : Member) → slice_get members 0 ≡ Some first → AreScripted members
       → AreConverted (files_of members) (joint_image (images_of members)) (homes_of members) (tables_of members)

@@ -1,27 +1,23 @@
 -- The methods of each package with their tables, in a group.
-use Rattle.std.proofs.Common.{◌≡◌, ℕ, zero, suc, Bool, true, false, List, [], ◌∷◌, Option, Some, None, refl, sym, ap}
+use Rattle.std.proofs.Common.{◌≡◌, ℕ, List, Option, Some, None, refl, sym, ap}
 use Rattle.std.proofs.Common.{subst, ◌∙◌}
-use Rattle.std.specs.Prelude.{slice_get, if◌then◌else◌}
-use Rattle.std.specs.Str.{bytes_eq}
-use Rattle.cjc_bytes.specs.declared.fault.MemberId.{MemberId}
-use Rattle.cjc_world.specs.ClassFile.declared.tree.ClassTree.{ClassTree}
-use Rattle.cjc_world.specs.Classes.{Class, all_classes}
+use Rattle.std.specs.Prelude.{slice_get}
+use Rattle.cjc_world.specs.Classes.{all_classes}
 use Rattle.cjc_world.specs.Files.{Files}
 use Rattle.cjc_types.specs.declared.state.State.{State}
 use Rattle.cjc_types.specs.Fixpoint.Tables.{HasRow}
 use Rattle.cjc_types.specs.Flow.{body_of}
 use Rattle.cjc_types.specs.Tables.{Breach}
-use Rattle.cjc_narrow_proof.specs.LowerIntervals.Frames.{RangeState}
 use Rattle.cjc_narrow_proof.specs.LowerIntervals.Tables.{IsLeastRanges, Passes}
 use Rattle.cjc_jvm_semantics.specs.Linked.{Method}
-use Rattle.cjc_jvm_semantics.specs.Group.{package_of, files_of_class}
+use Rattle.cjc_jvm_semantics.specs.Group.{files_of_class}
 use Rattle.cjc_narrow.specs.Rows.Resolved.{constant_named}
 use Rattle.cjc_narrow_proof.specs.Runs.Tables.{Tables, HasTables, body_in}
 use Rattle.cjc_narrow_proof.proofs.RunsLaws.Whole.{is_whole as whole_alone}
 use Rattle.cjc_joint_proof.specs.Worlds.{IsOwn}
 use Rattle.cjc_joint_proof.proofs.WorldLaws.{own_files}
 use Rattle.cjc_joint_theorem.specs.Together.Homes.{Homes, Home, files_for, joint_world, IsAtHome, HasTablesIn}
-use Rattle.cjc_joint_theorem.specs.Members.{Member, files_of, images_of, number_of, member_of, home_by, homes_of}
+use Rattle.cjc_joint_theorem.specs.Members.{Member, files_of, number_of, member_of, home_by, homes_of}
 use Rattle.cjc_joint_theorem.specs.Rules.{CallsStay}
 use Rattle.cjc_joint_theorem.specs.Members.{types_by, ranges_by, tables_of, AreMembers}
 use Rattle.cjc_joint_theorem.proofs.RuleLaws.{breach_stays, specials_do}

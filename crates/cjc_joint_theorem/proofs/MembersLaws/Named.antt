@@ -5,14 +5,14 @@ use Rattle.cjc_bytes.specs.AccessFlags.{is_static}
 use Rattle.cjc_bytes.specs.declared.fault.MemberId.{MemberId}
 use Rattle.cjc_code.specs.declared.insn.JOp.{JOp}
 use Rattle.cjc_script.specs.Sorts.{Shape}
-use Rattle.cjc_world.specs.Classes.{Class, all_classes, class_named}
+use Rattle.cjc_world.specs.Classes.{Class, all_classes}
 use Rattle.cjc_world.specs.Files.{Files}
 use Rattle.cjc_world.specs.Lookup.{find_field}
 use Rattle.cjc_world.specs.declared.found.Found.{Found}
 use Rattle.cjc_types.specs.declared.cell.Cell.{Cell}
-use Rattle.cjc_jvm_semantics.specs.Linked.{Method, ResolvedField, Constant, Static, Instance}
+use Rattle.cjc_jvm_semantics.specs.Linked.{Method, Constant, Static, Instance}
 use Rattle.cjc_jvm_semantics.specs.OnePackage.{ResolvedMember, constant_at, field_by, field_hit, field_named, of_class}
-use Rattle.cjc_jvm_semantics.specs.Group.{joint, joint_image, field_from, have_class}
+use Rattle.cjc_jvm_semantics.specs.Group.{joint_image, have_class}
 use Rattle.cjc_narrow_proof.specs.Runs.Names.{IsNamed}
 use Rattle.cjc_narrow_proof.specs.Runs.Names as alone
 use Rattle.cjc_narrow_proof.specs.Runs.Types.{IsThere}
@@ -99,26 +99,26 @@ module _ (members : List Member) (is : AreMembers members) (q : ℕ) (p : Member
       abbrev Together : JOp → Type 0
       Together op = IsNamedIn group (joint_image (images_of members)) (homes_of members) (tables_of members) m stack op
 
-      pub named_in : ((op : JOp) (h : Alone op) → IsLeft h → Together op) → (op : JOp) → Alone op → Together op
-      named_in rest _ (alone.names_nothing plain) = names.names_nothing plain
-      named_in rest _ (alone.is_on_array on) = names.is_on_array on
-      named_in rest _ (alone.returns is) = names.returns is
-      named_in rest _ alone.throws = names.throws
-      named_in rest _ (alone.a_field f h) = rest _ (alone.a_field f h) tt
-      named_in rest _ (alone.a_put_field f h) = rest _ (alone.a_put_field f h) tt
-      named_in rest _ (alone.a_static {put = put} f h) = rest _ (alone.a_static {put = put} f h) tt
-      named_in rest _ (alone.a_constant {named = id} z number holds found) = names.a_constant z number holds
+      pub named_in : (op : JOp) → ((h : Alone op) → IsLeft h → Together op) → Alone op → Together op
+      named_in _ rest (alone.names_nothing plain) = names.names_nothing plain
+      named_in _ rest (alone.is_on_array on) = names.is_on_array on
+      named_in _ rest (alone.returns is) = names.returns is
+      named_in _ rest alone.throws = names.throws
+      named_in _ rest (alone.a_field f h) = rest (alone.a_field f h) tt
+      named_in _ rest (alone.a_put_field f h) = rest (alone.a_put_field f h) tt
+      named_in _ rest (alone.a_static {put = put} f h) = rest (alone.a_static {put = put} f h) tt
+      named_in _ rest (alone.a_constant {named = id} z number holds found) = names.a_constant z number holds
           (subst (λ f. IsFieldIn group f id (Constant z)) (sym files_is) (constant_in id z found))
-      named_in rest _ (alone.a_class fields made are) = rest _ (alone.a_class fields made are) tt
-      named_in rest _ (alone.an_array {class = class} c there) =
+      named_in _ rest (alone.a_class fields made are) = rest (alone.a_class fields made are) tt
+      named_in _ rest (alone.an_array {class = class} c there) =
           let d = class_there members is q p.files (files_at members q p at) class c there in
           names.an_array d.0 (ap (λ f. have_class (Some f) class) files_is ∙ ap is_some there) d.1
-      named_in rest _ alone.booleans = names.booleans
-      named_in rest _ alone.bytes = names.bytes
-      named_in rest _ alone.shorts = names.shorts
-      named_in rest _ (alone.a_cast kind named there) = names.a_cast kind named
+      named_in _ rest alone.booleans = names.booleans
+      named_in _ rest alone.bytes = names.bytes
+      named_in _ rest alone.shorts = names.shorts
+      named_in _ rest (alone.a_cast kind named there) = names.a_cast kind named
           (subst (λ f. IsThereIn group f kind) (sym files_is) (type_in kind there))
-      named_in rest _ (alone.a_test kind named there) = names.a_test kind named
+      named_in _ rest (alone.a_test kind named there) = names.a_test kind named
           (subst (λ f. IsThereIn group f kind) (sym files_is) (type_in kind there))
-      named_in rest _ (alone.a_static_call h) = rest _ (alone.a_static_call h) tt
-      named_in rest _ (alone.a_call_on_receiver h) = rest _ (alone.a_call_on_receiver h) tt
+      named_in _ rest (alone.a_static_call h) = rest (alone.a_static_call h) tt
+      named_in _ rest (alone.a_call_on_receiver h) = rest (alone.a_call_on_receiver h) tt

@@ -1,6 +1,6 @@
 -- What the class files of several packages keep together that each keeps by itself: names find the classes of their
 -- numbers, methods that are not abstract have code, and fields of interfaces are static.
-use Rattle.std.proofs.Common.{◌≡◌, ◌+◌, ℕ, Bool, true, false, List, [], ◌∷◌, Option, Some, None, refl, sym, ap, subst}
+use Rattle.std.proofs.Common.{◌≡◌, ℕ, true, false, List, Some, refl, sym, ap, subst}
 use Rattle.std.proofs.Common.{◌∙◌}
 use Rattle.std.specs.Prelude.{slice_get}
 use Rattle.cjc_bytes.specs.AccessFlags.{is_abstract, is_interface, is_private, is_static}
@@ -8,14 +8,13 @@ use Rattle.cjc_world.specs.ClassFile.Code.{CodeTree}
 use Rattle.cjc_world.specs.ClassFile.declared.tree.ClassTree.{ClassTree}
 use Rattle.cjc_world.specs.ClassFile.declared.tree.FieldTree.{FieldTree}
 use Rattle.cjc_world.specs.ClassFile.declared.tree.MethodTree.{MethodTree}
-use Rattle.cjc_world.specs.Classes.{Class, all_classes, class_at, class_named, declared, imported}
+use Rattle.cjc_world.specs.Classes.{Class, class_at, class_named, declared}
 use Rattle.cjc_world.specs.Files.{Files}
 use Rattle.cjc_token_proof.proofs.VTableFiled.{IsFiled, filed, in_class_file, in_export_file}
 use Rattle.cjc_jvm_semantics.specs.OnePackage.{is_constructor}
 use Rattle.cjc_jvm_semantics.specs.Group.{joint, joint_exports}
 use Rattle.cjc_token_proof.specs.LowerWorldProof.Calls.Solid.{IsSolid}
 use Rattle.cjc_token_proof.specs.LowerWorldProof.Calls.Solid as alone
-use Rattle.cjc_joint_proof.specs.Worlds.{IsOwn, before}
 use Rattle.cjc_joint_proof.proofs.WorldLaws.{joint_from, own_at_number, outside_at_number}
 use Rattle.cjc_joint_theorem.specs.Together.Homes.{joint_world}
 use Rattle.cjc_joint_theorem.proofs.MembersLaws.Worlds.{flat_is}

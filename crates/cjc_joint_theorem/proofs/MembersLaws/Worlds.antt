@@ -1,18 +1,14 @@
 -- Classes of the joint world: each has the name of a class, and the machine's own exceptions are imported.
-use Rattle.std.proofs.Common.{◌≡◌, ◌⊎◌, ◌+◌, ℕ, zero, suc, Bool, true, false, ◌&&◌, ◌||◌, not, List, [], ◌∷◌, ◌++◌}
+use Rattle.std.proofs.Common.{◌≡◌, ◌⊎◌, ◌+◌, ℕ, zero, suc, Bool, true, false, ◌||◌, not, List, [], ◌∷◌, ◌++◌}
 use Rattle.std.proofs.Common.{Option}
 use Rattle.std.proofs.Common.{Some, None, refl, sym, ap, subst, ◌∙◌, flat_map, inl, inr, arith}
 use Rattle.std.specs.Prelude.{slice_get, if◌then◌else◌, codes}
-use Rattle.std.specs.Str.{bytes_eq}
 use Rattle.cjc_bytes.specs.AccessFlags.{is_interface}
 use Rattle.cjc_bytes.specs.Descriptor.{IsClassName}
-use Rattle.cjc_bytes.proofs.Bools.{and_true}
 use Rattle.cjc_world.specs.ExportFile.declared.tree.ExportClass.{ExportClass}
 use Rattle.cjc_world.specs.ExportFile.declared.tree.ExportTree.{ExportTree}
-use Rattle.cjc_world.specs.ClassFile.declared.tree.ClassTree.{ClassTree}
 use Rattle.cjc_world.specs.Classes.{Class, all_classes, class_named, declared, imported}
 use Rattle.cjc_world.specs.Files.{Files}
-use Rattle.cjc_world.specs.Subtype.{is_subtype}
 use Rattle.cjc_world.proofs.Cycles.{class_named-name}
 use Rattle.cjc_token_proof.proofs.VTableFiled.{Has, at_front, behind, IsFiled, filed, get-has, has-either, has-get}
 use Rattle.cjc_token_proof.proofs.VTableFiled.{in_class_file}
@@ -21,15 +17,13 @@ use Rattle.cjc_token_proof.specs.Subset.Members.{imports}
 use Rattle.cjc_jvm_semantics.specs.Effects.{Fault, exception_class}
 use Rattle.cjc_jvm_semantics.specs.OnePackage.{is_plain_import}
 use Rattle.cjc_jvm_semantics.specs.Group.{joint, joint_exports, is_among, is_of_group, outside_once}
-use Rattle.cjc_narrow_proof.specs.Runs.Converted.{IsException, IsConverted}
+use Rattle.cjc_narrow_proof.specs.Runs.Converted.{IsException}
 use Rattle.cjc_narrow_proof.specs.Runs.Types.{IsThere, of_class, of_numbers, of_references}
 use Rattle.cjc_script.specs.Sorts.{Shape}
-use Rattle.cjc_token_proof.specs.Tables.Sound.{IsSound}
 use Rattle.cjc_token_proof.proofs.TablesLaws.Filed.{import_in, has-front, has-back}
 use Rattle.cjc_token_proof.proofs.TablesLaws.Clean.{own_name}
 use Rattle.cjc_joint_proof.specs.Imports.{IsImport, of_package, of_outside}
-use Rattle.cjc_joint_proof.specs.Sound.{AreSound, IsSoundPackage}
-use Rattle.cjc_joint_proof.specs.Worlds.{AreApart, AreApartFromOutside, IsListed, IsOwn, before, outside_classes}
+use Rattle.cjc_joint_proof.specs.Worlds.{AreApart, before}
 use Rattle.cjc_joint_proof.proofs.WorldLaws.{joint_from, outside_is_found, own_is_found}
 use Rattle.cjc_joint_proof.proofs.SoundLaws.{apart, listed}
 use Rattle.cjc_joint_proof.proofs.AboveLaws.{subclass_stays, subtype_stays}
@@ -42,7 +36,8 @@ has_more t u xs ys f at_front = at_front
 has_more t u xs ys f (behind h) = behind (f h)
 
 -- an export file from outside is one that some package imports
-once_from : (group : List Files) (seen trees : List ExportTree) (t : ExportTree) → Has t (outside_once group seen trees)
+pub once_from : (group : List Files) (seen trees : List ExportTree) (t : ExportTree) → Has t (outside_once group seen
+    trees)
     → Has t trees
 once_from group seen [] t h = h
 once_from group seen (u ∷ trees) t h =
@@ -56,13 +51,13 @@ once_from group seen (u ∷ trees) t h =
     by false h here more = has_more t u (outside_once group (seen ++ u ∷ []) trees) trees more h
 
 -- a file that one of some packages imports
-record Imports (group : List Files) (t : ExportTree) : Type 0 where
-  number : ℕ
-  files : Files
-  is : slice_get group number ≡ Some files
-  has : Has t files.exports
+pub record Imports (group : List Files) (t : ExportTree) : Type 0 where
+  pub number : ℕ
+  pub files : Files
+  pub is : slice_get group number ≡ Some files
+  pub has : Has t files.exports
 
-from_package : (group : List Files) (t : ExportTree) → Has t (flat_map (λ (p : Files). p.exports) group)
+pub from_package : (group : List Files) (t : ExportTree) → Has t (flat_map (λ (p : Files). p.exports) group)
     → Imports group t
 from_package [] t h = elim h [ ]
 from_package (p ∷ group) t h = by (has-either t p.exports (flat_map (λ (p : Files). p.exports) group) h)
@@ -79,7 +74,7 @@ from_package (p ∷ group) t h = by (has-either t p.exports (flat_map (λ (p : F
     }
 
 -- the classes of a file are among those of all
-in_imports : (c : ExportClass) (t : ExportTree) (trees : List ExportTree) → Has t trees → Has c t.classes
+pub in_imports : (c : ExportClass) (t : ExportTree) (trees : List ExportTree) → Has t trees → Has c t.classes
     → Has c (imports trees)
 in_imports c t [] h g = elim h [ ]
 in_imports c t (u ∷ trees) at_front g = has-front c t.classes (imports trees) g

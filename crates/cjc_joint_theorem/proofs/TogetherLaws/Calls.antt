@@ -1,7 +1,7 @@
 -- Calls in the code of several packages are told alike on both sides, by what the class files say.
 use Rattle.std.proofs.Common.{◌≡◌, ◌+◌, ℕ, suc, Bool, true, false, ◌&&◌, ◌||◌, List, [], ◌∷◌, map, length, Option, Some}
 use Rattle.std.proofs.Common.{None, option_map, refl, sym, ap, subst, ◌∙◌, arith}
-use Rattle.std.specs.Prelude.{if◌then◌else◌, option_and_then, slice_get}
+use Rattle.std.specs.Prelude.{if◌then◌else◌, option_and_then}
 use Rattle.cjc_bytes.specs.AccessFlags.{is_static, is_private, is_interface}
 use Rattle.cjc_bytes.specs.Descriptor.{Part, IsClassName}
 use Rattle.cjc_bytes.specs.declared.fault.MemberId.{MemberId}
@@ -20,13 +20,12 @@ use Rattle.cjc_types.specs.declared.cell.Cell.{Cell}
 use Rattle.cjc_types.specs.Types.{parts, value_of}
 use Rattle.cjc_types.specs.Steps.{receivers}
 use Rattle.cjc_ncode.specs.declared.narrow.NMethod.{NMethod}
-use Rattle.cjc_ncode.specs.declared.narrow.PoolKey.{PoolKey}
 use Rattle.cjc_ncode.specs.declared.narrow.PoolKey.TheVariants as keys
 use Rattle.cjc_ncode.specs.Written.{nargs_of, words_by}
 use Rattle.cjc_ncode.specs.ByLabel.{by_label, Callee, Fixed, OnObject, OnSuper, OnInterface, Named, on_object}
 use Rattle.cjc_jvm_semantics.specs.Linked.{Method, Linked, Call, OnClass, Inside}
 use Rattle.cjc_jvm_semantics.specs.Linked as linked_by
-use Rattle.cjc_jvm_semantics.specs.OnePackage.{ResolvedMember, method_hit, of_class, is_constructor, is_initialiser}
+use Rattle.cjc_jvm_semantics.specs.OnePackage.{ResolvedMember, method_hit, of_class, is_constructor}
 use Rattle.cjc_jvm_semantics.specs.OnePackage.{first_imported}
 use Rattle.cjc_jvm_semantics.specs.OnePackage.{callee_at, interface_callee, on_class, call_by, method_at}
 use Rattle.cjc_jvm_semantics.specs.Group.{joint, joint_method, joint_call, group_call, group_linked, selection_for}
@@ -51,7 +50,7 @@ use Rattle.cjc_joint_proof.specs.JointNames.{found_for, hit_for, direct_by, dire
 use Rattle.cjc_joint_proof.specs.JointNames.{by_interface}
 use Rattle.cjc_joint_theorem.specs.Asked.{asked_by, key_by, from_asker, selected_for, class_for, group_named}
 use Rattle.cjc_joint_theorem.specs.Together.Homes.{Homes, files_for, resolution_for, group_codes, group_look_ups}
-use Rattle.cjc_joint_theorem.specs.Together.Homes.{joint_world, group_analysis, IsAtHome, HasTablesIn}
+use Rattle.cjc_joint_theorem.specs.Together.Homes.{joint_world, group_analysis, IsAtHome}
 use Rattle.cjc_joint_theorem.specs.Together.Calls.{IsCalleeIn, IsReachedIn, IsChosenIn, ChoosesIn, IsStaticIn}
 use Rattle.cjc_joint_theorem.specs.Together.Calls.{IsChoiceIn, IsReceiverIn, selected_together, above_together}
 use Rattle.cjc_joint_theorem.specs.Together.Calls as says

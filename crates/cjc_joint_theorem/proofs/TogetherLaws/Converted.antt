@@ -10,7 +10,7 @@ use Rattle.cjc_script.specs.declared.value.Value.TheVariants.{Num}
 use Rattle.cjc_script.specs.declared.report.FieldValue.{FieldValue}
 use Rattle.cjc_script.specs.declared.report.Thing.TheVariants as things
 use Rattle.cjc_script.specs.Sorts.{Shape, OfClass, Reference, array_name, shape_name, sort_of}
-use Rattle.cjc_world.specs.Classes.{Class, all_classes, class_named}
+use Rattle.cjc_world.specs.Classes.{Class, class_named}
 use Rattle.cjc_world.specs.Files.{Files}
 use Rattle.cjc_world.specs.Subtype.{is_subtype}
 use Rattle.cjc_world.specs.declared.image.ArrayCell.{ArrayCell}
@@ -50,7 +50,7 @@ use Rattle.cjc_narrow_proof.proofs.RunsLaws.Named.{made_is_there}
 use Rattle.cjc_types.specs.Search.{cells_of}
 use Rattle.cjc_joint_theorem.specs.Asked.{group_named}
 use Rattle.cjc_joint_theorem.specs.Together.Homes.{Homes, files_for, group_codes, group_look_ups, joint_world}
-use Rattle.cjc_joint_theorem.specs.Together.Homes.{group_analysis, HasTablesIn, IsBegunIn}
+use Rattle.cjc_joint_theorem.specs.Together.Homes.{group_analysis, HasTablesIn}
 use Rattle.cjc_joint_theorem.specs.Together.Converted.{IsMemberIn, IsFoundIn, AreConverted}
 use Rattle.cjc_joint_theorem.specs.Together.Converted as converted
 use Rattle.cjc_joint_theorem.proofs.TogetherLaws.Whole.{is_whole, begun_by}

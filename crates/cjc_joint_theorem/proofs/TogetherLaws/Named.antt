@@ -1,6 +1,6 @@
 -- What the class files of several packages say of the names in an instruction is told alike on both sides.
 use Rattle.std.proofs.Common.{◌≡◌, ℕ, true, false, List, [], ◌∷◌, map, Option, Some, None, refl, sym, ap, subst, ◌∙◌, ℤ}
-use Rattle.std.specs.Prelude.{is_some, if◌then◌else◌, ◌++◌, option_map, option_and_then, Bool}
+use Rattle.std.specs.Prelude.{is_some, if◌then◌else◌, ◌++◌, option_and_then}
 use Rattle.std.specs.List.{list_all}
 use Rattle.cjc_bytes.specs.Descriptor.{IsClassName}
 use Rattle.cjc_bytes.specs.declared.fault.MemberId.{MemberId}
@@ -12,7 +12,6 @@ use Rattle.cjc_world.specs.Classes.{Class, all_classes, class_named}
 use Rattle.cjc_world.specs.Files.{Files}
 use Rattle.cjc_world.specs.Subtype.{starts, is_subtype}
 use Rattle.cjc_world.specs.declared.image.StaticImage.{StaticImage}
-use Rattle.cjc_world.proofs.Cycles.{class_named-name}
 use Rattle.cjc_types.specs.declared.cell.Cell.{Cell}
 use Rattle.cjc_types.specs.declared.cell.Cell.TheVariants.{Refs}
 use Rattle.cjc_types.specs.Types.{array_of}

@@ -1,6 +1,5 @@
 -- Whole runs of several packages by name, and of their narrow code by either machine.
-use Rattle.std.proofs.Common.{◌≡◌, ℕ, sym, ap, subst, ◌∙◌, List}
-use Rattle.cjc_script.specs.declared.report.Report.{Report}
+use Rattle.std.proofs.Common.{◌≡◌, ap, subst, ◌∙◌, List}
 use Rattle.cjc_script.specs.declared.script.Script.{Script}
 use Rattle.cjc_card_semantics.specs.Bytecode.Runs.{Agree}
 use Rattle.cjc_world.specs.Files.{Files}
@@ -16,7 +15,7 @@ use Rattle.cjc_narrow_proof.proofs.TablesLaws.Package.{package_is_fine}
 use Rattle.cjc_joint_theorem.specs.Asked.{code_by, run}
 use Rattle.cjc_joint_proof.specs.JointCode as in_packages
 use Rattle.cjc_joint_proof.specs.JointNames.{place_of, joint_named, joint_labels}
-use Rattle.cjc_joint_theorem.specs.Together.Homes.{Homes, files_for, group_codes, own_codes, group_look_ups}
+use Rattle.cjc_joint_theorem.specs.Together.Homes.{Homes, group_codes, own_codes, group_look_ups}
 use Rattle.cjc_joint_theorem.specs.Together.Homes.{joint_world, group_analysis}
 use Rattle.cjc_joint_theorem.specs.Together.Converted.{AreConverted}
 use Rattle.cjc_joint_theorem.proofs.AskedLaws.{runs_in_package}

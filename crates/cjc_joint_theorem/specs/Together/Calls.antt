@@ -5,7 +5,7 @@ use Rattle.cjc_bytes.specs.AccessFlags.{is_static, is_private, is_interface}
 use Rattle.cjc_bytes.specs.declared.fault.MemberId.{MemberId}
 use Rattle.cjc_script.specs.Sorts.{Shape, Reference, shape_name}
 use Rattle.cjc_world.specs.declared.found.Found.{Found}
-use Rattle.cjc_world.specs.Classes.{Class, all_classes, class_named}
+use Rattle.cjc_world.specs.Classes.{all_classes, class_named}
 use Rattle.cjc_world.specs.Files.{Files}
 use Rattle.cjc_world.specs.Lookup.{is_selectable, find_method, receiver}
 use Rattle.cjc_world.specs.Subtype.{is_subtype}

@@ -1,6 +1,6 @@
 -- The methods of several packages with their least tables, each in the package that has it, and the narrow code that is
 -- written for them, which asks for that package.
-use Rattle.std.specs.Prelude.{◌≡◌, ℕ, List, codes, slice_get, Some, Bool, true}
+use Rattle.std.specs.Prelude.{◌≡◌, ℕ, List, codes, slice_get, Some, Bool}
 use Rattle.cjc_bytes.specs.declared.fault.MemberId.{MemberId}
 use Rattle.cjc_script.specs.Sorts.{Shape, shape_name, result_by}
 use Rattle.cjc_world.specs.Files.{Files}

@@ -1,4 +1,3 @@
-use Rattle.cjc_joint_theorem.specs.Members.{files_of, images_of, homes_of, tables_of}
 use Rattle.cjc_joint_theorem.proofs.MembersLaws.Joined.{are_converted, runs}
 use Rattle.cjc_joint_theorem.proofs.members.members_run_together.Goals as goal
 

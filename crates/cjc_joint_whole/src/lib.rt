@@ -1,0 +1,6 @@
+//! Packages that break no rule, as members of a group: their class files by name in the joint world and their narrow
+//! code run alike, but for the methods that code calls and scripts name. It has definitions and laws alone; nothing
+//! here runs.
+#![tactic(auto)]
+
+pub mod members;
