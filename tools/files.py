@@ -155,7 +155,8 @@ def of_ints(told):
     found = [f"{name}: {of.name} {method.spelt()}, {why}" for name, of, _ in own for method in of.methods
              for why in [int_in(of, method)] if why]
     more = [f"and {len(found) - MOST} methods more"] if len(found) > MOST else []
-    return found[:MOST] + more or [f"{told.refusal.file}: no method of its class files works on int now"]
+    return found[:MOST] + more or [f"{told.refusal.file}: no method of its class files works on int now",
+                                   "without the line int, 601 to 606 tell which numbers may leave 16 bits"]
 
 
 def int_in(of, method):

@@ -10,3 +10,5 @@ pub mod LinkRan
 pub mod Summed
 pub mod Typed
 pub mod Versions
+pub mod Accepting
+pub mod Leaving

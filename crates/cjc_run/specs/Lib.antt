@@ -23,4 +23,5 @@ pub mod Promise
 pub mod Asked
 pub mod Command
 pub mod Convert
+pub mod Written
 pub mod Text

@@ -20,6 +20,6 @@ mod laws;
 mod text;
 mod top;
 
-pub use laws::one_status;
+pub use laws::{done_conversions_are_written, one_status};
 pub use text::{line, status_line};
 pub use top::run;

@@ -9,9 +9,11 @@ ghost use Rattle.cjc_run.specs.Request.{request};
 ghost use Rattle.cjc_run.specs.Asked.{HasSize, asked};
 ghost use Rattle.cjc_run.specs.Command.{command_of};
 ghost use Rattle.cjc_run.specs.Promise.{Promised};
+ghost use Rattle.cjc_run.specs.Written.{Accepts};
 
 use crate::command::{Asked, asked_by};
 use crate::converting::gather_convert;
+use crate::laws::written_files_pass;
 use cjc_cmd_compat::cmd_check::checking::gather_check;
 use cjc_cmd_compat::gather_compat;
 use cjc_cmd_link::{gather_link, gather_linkjvm};
@@ -93,7 +95,14 @@ pub fn run<S: Shelf, O: Sink>(alloc: Global, words: &[Bytes], shelf: &mut S, out
     // after behave alike, and the components are consistent.
     ensures alike { result ≡ Status.Done → IfSome (request words.now) (λ asked. Promised asked (S.shelved shelf.old)
         (S.shelved shelf.new) (O.sunk out.old) (O.sunk out.new)) }
+
+    // What `convert` wrote, `verify` accepts: where a list and its files are there, the export files among them are
+    // fair, and in the folder stand the files that `convert` makes of these, all is done, want of memory aside, where
+    // no fault count rises.
+    ensures accepted { IfSome (request words.now) (λ asked. Accepts asked (S.shelved shelf.old) (S.shelved shelf.new)
+        (O.sunk out.old) (O.sunk out.new) result) }
 {
+    written_files_pass();
     match asked_by(words) {
         None => Status::Usage,
         Some(command) => act(alloc, command, shelf, out),

@@ -20,5 +20,10 @@ returns-in-Some-clause-alike g c =
     let is = rw c.in-Some.is at c.asked_by.ensures.asked in
     rw (sym is) (λ done. promised (asked c.in-Some.command) _ _ _ _ _ c.act.ensures done)
 
+pub returns-in-Some-clause-accepted : goal.returns-in-Some-clause-accepted
+returns-in-Some-clause-accepted g c =
+    let is = rw c.in-Some.is at c.asked_by.ensures.asked in
+    rw (sym is) (c.written_files_pass.ensures (asked c.in-Some.command) _ _ _ _ _ c.act.ensures)
+
 pub act-requires : goal.act-requires
 act-requires g c = rw c.in-Some.is at c.asked_by.ensures.size
