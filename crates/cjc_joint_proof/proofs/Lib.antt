@@ -36,3 +36,5 @@ pub mod LeadLaws
 pub mod FixedLaws
 pub mod OutwardLaws
 pub mod SharedLaws
+pub mod ReachLaws
+pub mod NamedLaws

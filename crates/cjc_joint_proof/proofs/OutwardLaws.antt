@@ -130,10 +130,10 @@ module _ (packages : List Package) (linked : AreLinked packages) (at : Method �
       ∙ ap (λ y. Some (Linked.Abroad (of_class y id))) (ap (λ (d : Class). d.name) owner ∙ place.3)
 
   -- what is reached is that event, where anything is
-  reached_is : (on : Bool) (o : Option (Shape (List ℕ))) (r : Reached (InPackage Placed))
+  pub outside_is : (on : Bool) (o : Option (Shape (List ℕ))) (r : Reached (InPackage Placed))
       → (let calls = joint_calls group (start_placed at) in calls.reached (of_package q (ByLabel.Fixed on id)) o) ≡ r
       → IsFound r → r ≡ Abroad id
-  reached_is on o r e is_found = by on o (sym (ap (λ x. reached_for group (start_placed at) (option_and_then (λ asker.
+  outside_is on o r e is_found = by on o (sym (ap (λ x. reached_for group (start_placed at) (option_and_then (λ asker.
       callee_for (joint group) w asker (ByLabel.Fixed on id) o) x)) (together_at packages linked q p here)) ∙ e)
     where
       met : reached_for group (start_placed at) (direct (joint group) w p.files id) ≡ r → r ≡ Abroad id
@@ -202,7 +202,7 @@ module _ (packages : List Package) (linked : AreLinked packages) (at : Method �
       ≡ reached_as (code_at g) (offset_at g) r
   outside_reach on o r e is_found =
       ap (λ x. reached l x (option_as (shape_as (class_together packages)) o)) (callee_is on)
-      ∙ sym (ap (reached_as (code_at g) (offset_at g)) (reached_is on o r e is_found))
+      ∙ sym (ap (reached_as (code_at g) (offset_at g)) (outside_is on o r e is_found))
 
   pub outside_words : (on : Bool) → ((n : ℕ) → words_by_name p.files (world p) (ByLabel.Fixed on id) ≡ Some n
       → words (loaded p) (callee (naming p) (ByLabel.Fixed on id)) ≡ Some n) → (n : ℕ)

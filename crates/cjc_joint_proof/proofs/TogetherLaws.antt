@@ -40,7 +40,7 @@ use Rattle.cjc_joint_proof.proofs.RenamedLaws.{code_holds}
 
 -- ---- the place of a package
 
-place_is : (group : List Files) (q : ℕ) (f : Files) (x : List ℕ) → slice_get group q ≡ Some f
+pub place_is : (group : List Files) (q : ℕ) (f : Files) (x : List ℕ) → slice_get group q ≡ Some f
     → f.package_name ≡ package_of x
     → ((j : ℕ) (g : Files) → slice_get group j ≡ Some g → g.package_name ≡ f.package_name → j ≡ q)
     → place_of group x ≡ q

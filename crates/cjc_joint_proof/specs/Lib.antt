@@ -16,3 +16,4 @@ pub mod Towers
 pub mod Worlds
 pub mod JointTables
 pub mod JointCalled
+pub mod JointFixed

@@ -6,3 +6,5 @@ pub mod Fields
 pub mod Statics
 pub mod Objects
 pub mod Joined
+pub mod Listed
+pub mod StaticCalls

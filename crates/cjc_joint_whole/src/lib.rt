@@ -3,4 +3,5 @@
 //! here runs.
 #![tactic(auto)]
 
+pub mod exports;
 pub mod members;
