@@ -23,23 +23,27 @@ use Rattle.cjc_classes.specs.JvmSemantics.OnePackage.{is_initialiser, method_at,
 use Rattle.cjc_classes.specs.List.Listed.{ListTree}
 use Rattle.cjc_classes.specs.Narrow.Rows.Resolved.{constant_named}
 use Rattle.cjc_classes.specs.Types.Flow.{Body, body_of}
-use Rattle.cjc_classes.specs.Types.Tables.{Breach, IsLeastTable, IsMethodOf}
+use Rattle.cjc_classes.specs.Types.Tables.{Breach, IsLeastTable, IsMethodOf, IsTypeTable, rows_of}
+use Rattle.cjc_classes.specs.Types.declared.table.TypeTable.{TypeTable}
 use Rattle.cjc_classes.specs.Types.Types.{no_parts, parts, parts_or_none}
 use Rattle.cjc_components.specs.Bytecode.ReadLaws.Members.{IsReadClass}
 use Rattle.cjc_components.specs.Bytecode.declared.method_code.MethodCode.{MethodCode}
 use Rattle.cjc_components.specs.Package.{LaidMethod, Package}
 use Rattle.cjc_narrow_proof.proofs.BytecodeMembers.{read_class}
-use Rattle.cjc_narrow_proof.proofs.LawsLaws.ClassNames.{each_name}
+use Rattle.cjc_narrow_proof.proofs.LawsLaws.ClassNames.{each_name, own_name}
 use Rattle.cjc_narrow_proof.proofs.LawsLaws.Handlers.{caught_there, class_there}
 use Rattle.cjc_narrow_proof.proofs.LawsLaws.Own.{flags_by_name}
 use Rattle.cjc_narrow_proof.proofs.LawsLaws.Room.{room_to_begin}
-use Rattle.cjc_narrow_proof.proofs.LawsLaws.WordTypes.{type_values}
+use Rattle.cjc_narrow_proof.proofs.LawsLaws.WordTypes.{type_values, word_desc}
+use Rattle.cjc_narrow_proof.proofs.SelectedLaws.IntFree.{own_desc}
+use Rattle.cjc_narrow_proof.proofs.TypesLeast.{one_least}
 use Rattle.cjc_narrow_proof.proofs.SelectedLaws.SomeInsns.{some_insns}
 use Rattle.cjc_narrow_proof.specs.Runs.Converted.{IsException, IsFirst}
-use Rattle.cjc_narrow_proof.specs.Runs.Tables.{Tables as RunTables}
+use Rattle.cjc_narrow_proof.specs.Runs.Tables.{HasTables, Tables as RunTables}
 use Rattle.cjc_narrow_proof.specs.Script.Sorts.{Boolean, Byte, Int, NoValue, Reference, Short, Sort, sort_of}
 use Rattle.cjc_narrow_proof.specs.Selected.Keeps.{FindsItself}
 use Rattle.cjc_narrow_proof.specs.Selection.Objects as narrow
+use Rattle.cjc_vtable.specs.LowerSubset.Ints.{code_works_on_int}
 use Rattle.cjc_vtable.specs.LowerSubset.Types.{is_any_unsupported, is_unsupported_desc, is_unsupported_part}
 use Rattle.cjc_int_alike.specs.ByModes.{HasIntTables, PassesInIntMode, codes_by_mode, look_ups_by_mode}
 use Rattle.cjc_int_alike.specs.Calls.{IsIntDesc, is_some_result}
@@ -50,7 +54,7 @@ use Rattle.cjc_int_components.proofs.Room.{room_in_int_mode}
 use Rattle.cjc_int_narrow.specs.LowerIntMode.Room.{IsRoom}
 use Rattle.cjc_int_narrow.specs.LowerIntMode.declared.modes.Mode.TheVariants as modes
 use Rattle.cjc_shape.specs.LowerJudge.Rules.{settings_of}
-use Rattle.cjc_shape_proof.specs.Intervals.Tables.{IsLeastRanges}
+use Rattle.cjc_shape_proof.specs.Intervals.Tables.{IsLeastRanges, Passes}
 use Rattle.cjc_shape_proof.proofs.WrittenLaws.Checked.{are_spelt, read_files}
 use Rattle.cjc_shape_proof.proofs.WrittenLaws.Coded.{own_at}
 use Rattle.cjc_shape_proof.proofs.WrittenLaws.Shaping.{none_broken}
@@ -65,12 +69,13 @@ use Rattle.cjc_world.specs.ClassFile.declared.tree.MethodTree.{MethodTree}
 use Rattle.cjc_world.specs.Classes.{Class, all_classes, class_named}
 use Rattle.cjc_int_theorem.specs.Alike.{AreRunBy}
 use Rattle.cjc_int_theorem.specs.ByModes.{IsConvertedByModes}
+use Rattle.cjc_int_theorem.specs.Tabled.{IsOwnMethod}
 use Rattle.cjc_int_theorem.proofs.SameCode.{stands_there}
 use Rattle.cjc_int_theorem.proofs.Methods.{are_methods}
 
 -- ---- descriptors
 
-of_values : (sort : Sort) → narrow.has_values sort ≡ true → has_values sort ≡ true
+pub of_values : (sort : Sort) → narrow.has_values sort ≡ true → has_values sort ≡ true
 of_values Boolean e = refl
 of_values Byte e = refl
 of_values Short e = refl
@@ -101,7 +106,7 @@ result_values (value {p = p} t) f = some_so p.kind p (of_values (sort_of p) (typ
 result_values nothing f = refl
 
 -- 301, where int may stand
-int_desc : (desc : List ℕ) (d : Parts) → length desc < 2 ^ 32 → desc_of desc ≡ Some d → d.is_method ≡ true
+pub int_desc : (desc : List ℕ) (d : Parts) → length desc < 2 ^ 32 → desc_of desc ≡ Some d → d.is_method ≡ true
     → is_unsupported_desc desc ≡ false → IsIntDesc desc
 unfolding parts is_unsupported_desc
 int_desc desc d short is is_method no_unsupported =
@@ -160,6 +165,22 @@ module _ (list : ListTree) (codes : List MethodCode) (t : Tables) (p : Package) 
       there = stands_there list codes t p is code.class code.method class method tree of.is_class of.is_method
           of.is_code plain
 
+      own_method : IsOwnMethod p.files x
+      own_method = record {
+        class = class;
+        method = method;
+        tree = tree;
+        own = record {
+          number = code.class;
+          place = code.method;
+          is_class = of.is_class;
+          is_method = of.is_method;
+        };
+        plain = plain;
+        is_code = of.is_code;
+        is = refl;
+      }
+
       finds : FindsItself p.files class method
       finds = flags_by_name p.files list.name is.checked.listed is.checked.unbroken code.class class of.is_class
           code.method method of.is_method
@@ -192,10 +213,9 @@ module _ (list : ListTree) (codes : List MethodCode) (t : Tables) (p : Package) 
           → AreRunBy p.files t tables in_int_mode → t.mode x ≡ modes.Int
           → PassesInIntMode body (t.types x) (t.ranges x) → HasIntTables p.files tables x
       has_int_tables tables in_int_mode are mode passes =
-          let (k, m, e, found) = there in
           let constant = constant_named p.files (all_classes p.files) in
-          let types = sym (are.types m.member x found plain) in
-          let ranges = sym (are.ranges m.member x found) in
+          let types = sym (are.types x own_method) in
+          let ranges = sym (are.ranges x own_method) in
           let least = is.least code class method tree (subst (λ cs. Contains cs code) is.checked.codes_are listed) of in
           let d = own_class.methods code.method method of.is_method in
           let kept = method_kept list.name p.files codes (settings_of list) is.checked.checks code.class class
@@ -225,3 +245,59 @@ module _ (list : ListTree) (codes : List MethodCode) (t : Tables) (p : Package) 
             caught = λ c name among e. (let one = class_there (all_classes p.files) name (caught_there p.files codes
                 is.checked.names code class method tree of listed c name among e) in class_names name one.0 one.1);
           }
+
+      -- and outside int mode, where it works on no int
+      has_short_tables : (tables : RunTables) (in_int_mode : Method → Bool)
+          → AreRunBy p.files t tables in_int_mode → code_works_on_int p.files code ≡ false
+          → (table : TypeTable) → IsTypeTable (all_classes p.files) body table → Passes body (t.types x) (t.ranges x)
+          → HasTables p.files tables x
+      has_short_tables tables in_int_mode are free table is_table passes =
+          let constant = constant_named p.files (all_classes p.files) in
+          let types = sym (are.types x own_method) in
+          let ranges = sym (are.ranges x own_method) in
+          let least = is.least code class method tree (subst (λ cs. Contains cs code) is.checked.codes_are listed) of in
+          let d = own_class.methods code.method method of.is_method in
+          let kept = method_kept list.name p.files codes (settings_of list) is.checked.checks code.class class
+          of.is_class code.method method of.is_method in
+          let has_bytes : CodeFits tree = subst (λ o. IfSome o CodeFits) of.is_code fitting.code in
+          record {
+            code = code;
+            class = class;
+            method = method;
+            tree = tree;
+            of_package = of;
+            is = refl;
+            table = table;
+            is_table = is_table;
+            types = sym types ∙ one_least body (t.types x) (rows_of body table) least.0 is_table.stands.least;
+            ranges = subst (λ rows. IsLeastRanges body constant rows (tables.ranges x)) types
+                (subst (IsLeastRanges body constant (t.types x)) ranges least.1);
+            passes = subst (λ rows. Passes body rows (tables.ranges x)) types
+                (subst (Passes body (t.types x)) ranges passes);
+            found = finds;
+            desc = word_desc method.desc d.0 short d.1 d.2 kept.0 (own_desc p.files code class method tree of free);
+            named = own_name p.files list.name is.checked.listed is.checked.unbroken (are_spelt list codes p
+                is.checked) code.class class of.is_class;
+            begins = record {
+              some = some_insns p.files code class method tree of has_bytes.some;
+              room = room_to_begin p.files code class method tree of short;
+            };
+            caught = λ c name among e. (let one = class_there (all_classes p.files) name (caught_there p.files codes
+                is.checked.names code class method tree of listed c name among e) in class_names name one.0 one.1);
+          }
+
+      -- each with its code, which is among those of the package
+      pub int_listed : (tables : RunTables) (in_int_mode : Method → Bool)
+          → AreRunBy p.files t tables in_int_mode → t.mode x ≡ modes.Int
+          → PassesInIntMode body (t.types x) (t.ranges x) → (h : HasIntTables p.files tables x)
+          × Contains codes h.code
+      unfolding has_int_tables
+      int_listed tables in_int_mode are mode passes = (has_int_tables tables in_int_mode are mode passes, listed)
+
+      pub short_listed : (tables : RunTables) (in_int_mode : Method → Bool)
+          → AreRunBy p.files t tables in_int_mode → code_works_on_int p.files code ≡ false
+          → (table : TypeTable) → IsTypeTable (all_classes p.files) body table → Passes body (t.types x) (t.ranges x)
+          → (h : HasTables p.files tables x) × Contains codes h.code × (code_works_on_int p.files h.code ≡ false)
+      unfolding has_short_tables
+      short_listed tables in_int_mode are free table is_table passes =
+          (has_short_tables tables in_int_mode are free table is_table passes, listed, free)

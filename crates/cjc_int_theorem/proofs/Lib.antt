@@ -7,3 +7,8 @@ pub mod Methods
 pub mod OfFiles
 pub mod SameCode
 pub mod IntTables
+pub mod Finds
+pub mod FindsNamed
+pub mod Narrowed
+pub mod Behaves
+pub mod Judged

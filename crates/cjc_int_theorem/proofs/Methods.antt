@@ -125,7 +125,7 @@ module _ (list : ListTree) (codes : List MethodCode) (t : Tables) (p : Package) 
       least = (is.least c.code c.class c.method c.tree listed c.of).0
 
       -- outside int mode it works on no int
-      free : t.mode x ≡ modes.Short → code_works_on_int p.files c.code ≡ false
+      pub free : t.mode x ≡ modes.Short → code_works_on_int p.files c.code ≡ false
       free mode = by list.ints refl
         where
           by : (b : Bool) → list.ints ≡ b → code_works_on_int p.files c.code ≡ false

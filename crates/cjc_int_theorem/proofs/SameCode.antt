@@ -42,6 +42,7 @@ use Rattle.cjc_world.specs.Classes.{all_classes}
 use Rattle.cjc_world.specs.Order.{method_order}
 use Rattle.cjc_world.specs.declared.found.Found.{Found}
 use Rattle.cjc_int_theorem.specs.Alike.{AreRunBy}
+use Rattle.cjc_int_theorem.specs.Tabled.{IsOwnMethod}
 use Rattle.cjc_int_theorem.specs.ByModes.{IsConvertedByModes}
 
 -- ---- runs
@@ -145,16 +146,6 @@ module _ (list : ListTree) (codes : List MethodCode) (t : Tables) (p : Package) 
             ∙ plain in
             absurd cc
 
-    first_mode : (x : Method) → (let id = x.id in is_initialiser id.name) ≡ true → IsOfFile p.files x
-        → t.mode x ≡ modes.Short
-    first_mode x first o = by (let m = o.method in m.code) refl
-      where
-        by : (c : Option CodeTree) → (let m = o.method in m.code) ≡ c → t.mode x ≡ modes.Short
-        by None e = ap t.mode (o.is ∙ ap (method_by o.class o.method) e)
-            ∙ (let m = is.modes in m.without_code o.class o.method)
-        by (Some tree) e = ap t.mode (o.is ∙ ap (method_by o.class o.method) e)
-            ∙ (let m = is.modes in m.initialisers o.class o.method tree (sym (first_name x o) ∙ first))
-
     -- ---- by the tables of whole runs
 
     module _ (tables : RunTables) (in_int_mode : Method → Bool) (are : AreRunBy p.files t tables in_int_mode) where
@@ -179,19 +170,44 @@ module _ (list : ListTree) (codes : List MethodCode) (t : Tables) (p : Package) 
           ∙ ap (written_in_int_mode r (tree_of x) b (t.types x)) g
       in_mode x modes.Short e g = by_rows x (t.types x) e
 
-      plain_run : (f : Found) (x : Method) → method_at p.files f ≡ Some x
-          → (let id = x.id in is_initialiser id.name) ≡ false → run_code x ≡ code x
-      plain_run f x found plain =
-          ap (λ b. code_by p.files p.image near tables in_int_mode b x) (are.modes f x found)
-          ∙ in_mode x (t.mode x) (are.types f x found plain) (are.ranges f x found)
+      -- a method that is not in int mode there, and has no row, has what no rows give
+      bare_run : (x : Method) → (IsOwnMethod p.files x → ⊥) → run_code x ≡ code_of p.files near no_rows x
+      bare_run x none =
+          ap (λ b. code_by p.files p.image near tables in_int_mode b x) (off (in_int_mode x) refl)
+          ∙ by_rows x [] (are.others x none) ∙ bare_code p.files near x
+        where
+          off : (b : Bool) → in_int_mode x ≡ b → b ≡ false
+          off true e = absurd (none (are.only_int x e))
+          off false e = refl
 
-      first_run : (f : Found) (x : Method) → method_at p.files f ≡ Some x
-          → (let id = x.id in is_initialiser id.name) ≡ true → IsOfFile p.files x
+      plain_run : (x : Method) → (let id = x.id in is_initialiser id.name) ≡ false → IsOfFile p.files x
+          → run_code x ≡ code x
+      plain_run x plain o = by (let m = o.method in m.code) refl
+        where
+          by : (c : Option CodeTree) → (let m = o.method in m.code) ≡ c → run_code x ≡ code x
+          by None e =
+              let is : x ≡ method_by o.class o.method None = o.is ∙ ap (method_by o.class o.method) e in
+              let same : code x ≡ code_of p.files near no_rows x = subst (λ y. code y ≡ code_of p.files near no_rows y)
+              (sym is) (bare o.class o.method) in
+              bare_run x (λ own. (let two : true ≡ false = sym (ap (λ (y : Method). y.is_abstract) is)
+              ∙ ap (λ (y : Method). y.is_abstract) own.is in absurd cc)) ∙ sym same
+          by (Some tree) e =
+              let own : IsOwnMethod p.files x = record {
+                class = o.class;
+                method = o.method;
+                tree = tree;
+                own = record { number = o.number; place = o.place; is_class = o.is_class; is_method = o.is_method };
+                plain = sym (first_name x o) ∙ plain;
+                is_code = e;
+                is = o.is ∙ ap (method_by o.class o.method) e;
+              } in
+              ap (λ b. code_by p.files p.image near tables in_int_mode b x) (are.modes x own)
+              ∙ in_mode x (t.mode x) (are.types x own) (are.ranges x own)
+
+      first_run : (x : Method) → (let id = x.id in is_initialiser id.name) ≡ true
           → run_code x ≡ code_of p.files near no_rows x
-      first_run f x found first o =
-          ap (λ b. code_by p.files p.image near tables in_int_mode b x)
-          (are.modes f x found ∙ ap is_int (first_mode x first o))
-          ∙ by_rows x [] (are.initialisers f x found first) ∙ bare_code p.files near x
+      first_run x first = bare_run x (λ own. (let two : true ≡ false = sym first
+          ∙ ap (λ (y : Method). let id = y.id in is_initialiser id.name) own.is ∙ own.plain in absurd cc))
 
       -- what whole runs go by is what stands in Method
       pub same_code : (f : Found) (x : Method) → method_at p.files f ≡ Some x → run_code x ≡ laid_code p x
@@ -201,5 +217,5 @@ module _ (list : ListTree) (codes : List MethodCode) (t : Tables) (p : Package) 
           o = of_file p.files f x e
 
           by : (b : Bool) → (let id = x.id in is_initialiser id.name) ≡ b → run_code x ≡ laid_code p x
-          by true g = first_run f x e g o ∙ sym (none_first x g o)
-          by false g = plain_run f x e g ∙ sym (plain_code x g o)
+          by true g = first_run x g ∙ sym (none_first x g o)
+          by false g = plain_run x g o ∙ sym (plain_code x g o)

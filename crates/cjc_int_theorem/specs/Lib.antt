@@ -1,2 +1,3 @@
 pub mod ByModes
+pub mod Tabled
 pub mod Alike

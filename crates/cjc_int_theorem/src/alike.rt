@@ -4,6 +4,9 @@ ghost use Rattle.std.specs.Prelude.{◌≡◌, ℕ, Bool, false, List, Some};
 ghost use Rattle.cjc_bytes.specs.Descriptor.{IsClassName};
 ghost use Rattle.cjc_bytes.specs.declared.fault.MemberId.{MemberId};
 ghost use Rattle.cjc_check_proof.specs.TokenProof.Tables.Loading.{loaded};
+ghost use Rattle.cjc_check_proof.specs.TokenProof.WrittenSends.Sends.{ExportsSend};
+ghost use Rattle.cjc_shape_proof.specs.LowerJudge.declared.judged.Judged.{Judged};
+ghost use Rattle.cjc_shape_proof.specs.LowerShape.Prepared.{IsSound};
 ghost use Rattle.cjc_check_proof.specs.TokenProof.WrittenCalls.Standing.{laid_code};
 ghost use Rattle.cjc_jvm_semantics.specs.ByName.{run as run_by_name};
 ghost use Rattle.cjc_classes.specs.JvmSemantics.Effects.{Fault, exception_class};
@@ -26,10 +29,12 @@ ghost use Rattle.cjc_world.specs.ClassFile.declared.tree.MethodTree.{MethodTree}
 ghost use Rattle.cjc_world.specs.Classes.{Class, all_classes, class_named};
 ghost use Rattle.cjc_world.specs.declared.found.Found.{Found};
 ghost use Rattle.cjc_int_alike.specs.ByModes.{HasIntTables, PassesInIntMode, codes_by_mode, look_ups_by_mode};
+ghost use Rattle.cjc_int_alike.specs.Converted.{IsNarrowedByModes};
 ghost use Rattle.cjc_int_components.specs.Modes.{Tables};
 ghost use Rattle.cjc_int_narrow.specs.LowerIntMode.declared.modes.Mode.TheVariants as modes;
-ghost use Rattle.cjc_int_theorem.specs.Alike.{AreRunBy, BehavesByModes};
+ghost use Rattle.cjc_int_theorem.specs.Alike.{AreRunBy, BehavesByModes, IsPassedByModes};
 ghost use Rattle.cjc_int_theorem.specs.ByModes.{IsConvertedByModes};
+ghost use Rattle.cjc_int_theorem.specs.Tabled.{AreTabledByModes};
 
 use crate::joined::components_by_modes_run_by_token;
 use cjc_int_alike::packages::packages_by_modes_run_alike;
@@ -75,3 +80,37 @@ pub fn packages_by_modes_have_their_tables()
         (t.ranges (method_by class method (Some tree)))
         → HasIntTables p.files tables (method_by class method (Some tree)) }
 {}
+
+/// And where each of its methods with code has least tables that break none of the rules of its mode, and no other has
+/// a row or is in int mode, the rest is so too: what its code and scripts name is found in the class files and export
+/// files, and has one word where the code is not in int mode. So its narrow code by these tables and modes runs as its
+/// class files.
+pub fn packages_by_modes_find_their_names()
+    ensures { (list : ListTree) (codes : List MethodCode) (t : Tables) (p : Package)
+        → IsConvertedByModes list codes t p → (near : List MemberId) (tables : RunTables)
+        (in_int_mode : Method → Bool) → AreTabledByModes p.files codes tables in_int_mode
+        → IsNarrowedByModes p.files p.image near tables in_int_mode }
+{}
+
+/// A package by modes that breaks no rule, where no number breaks one of 601 to 609 that binds the mode of its method,
+/// has tables by which its components behave as its class files.
+pub fn passed_packages_behave_by_modes()
+    ensures { (list : ListTree) (codes : List MethodCode) (t : Tables) (p : Package)
+        → IsPassedByModes list codes t p → BehavesByModes list codes t p }
+{}
+
+/// Of files that were judged and break no rule, the package by the modes of its methods is such a one: where it breaks
+/// none of the rules that speak of what is written for it, and its export files send what its components are sent. So
+/// its components behave as its class files.
+pub fn judged_packages_behave_by_modes()
+    ensures passed { (list : ListTree) (files : List (List ℕ)) (judged : Judged) → IsSound list files judged
+        → (t : Tables) (p : Package) → p.files ≡ judged.world → IsConvertedByModes list judged.codes t p
+        → ExportsSend p → IsPassedByModes list judged.codes t p }
+    ensures runs { (list : ListTree) (files : List (List ℕ)) (judged : Judged) → IsSound list files judged
+        → (t : Tables) (p : Package) → p.files ≡ judged.world → IsConvertedByModes list judged.codes t p
+        → ExportsSend p → (script : Script)
+        → Agree 4096 (λ n. run_by_name p.files p.image script n) (λ n. run_by_token (loaded p) script n) }
+{
+    components_by_modes_behave_as_class_files();
+    passed_packages_behave_by_modes();
+}

@@ -5,4 +5,5 @@ pub mod Descs
 pub mod Calls
 pub mod Scripts
 pub mod Fields
+pub mod Short
 pub mod Whole

@@ -5,3 +5,4 @@ pub mod Flags
 pub mod Lacking
 pub mod Entries
 pub mod Interfaces
+pub mod Unbound

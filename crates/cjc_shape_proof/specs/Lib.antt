@@ -1,4 +1,5 @@
 pub mod Whole
+pub mod Finds
 pub mod Written
 -- Definitions of lower crates, for those above.
 pub mod CapRead

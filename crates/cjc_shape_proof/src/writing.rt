@@ -8,8 +8,11 @@ ghost use Rattle.cjc_classes.specs.CapWrite.Writable.{IsWritable};
 ghost use Rattle.cjc_components.specs.Components.{components_of};
 ghost use Rattle.cjc_components.specs.ExportFile.{export_of};
 ghost use Rattle.cjc_components.specs.Limits.{size_breaks};
-ghost use Rattle.cjc_components.specs.Package.{Package};
+ghost use Rattle.cjc_components.specs.Package.{Package, world};
 ghost use Rattle.cjc_world.specs.ExportFile.Writable.{IsWritable as CanBeExported};
+ghost use Rattle.cjc_check_proof.specs.TokenProof.WrittenCalls.Calls.{NoStaticMethods};
+ghost use Rattle.cjc_shape_proof.specs.Written.Converted.{ExportsArePlain};
+ghost use Rattle.cjc_shape_proof.specs.Written.Entries.{UnboundAreOwn};
 ghost use Rattle.cjc_shape_proof.specs.Written.LaidOut.{AidsAreShort, ExportedInterfacesStand, IsLaidOut};
 ghost use Rattle.cjc_shape.specs.LowerJudge.Spelt.{IsRead};
 ghost use Rattle.cjc_shape.specs.LowerJudge.declared.judged.Judged.{Judged};
@@ -52,3 +55,11 @@ pub fn export_files_can_be_written()
     exported_classes_stand();
     export_files_fit();
 }
+
+/// The static methods and constructors that it lists are public or protected ones that the classes of the package
+/// declare, by their names, descriptors, flags and tokens, and Export has each at the place of its token: where no
+/// interface has a static method but its initialiser.
+pub fn unbound_entries_are_own()
+    ensures { (list : ListTree) (files : List (List ℕ)) (judged : Judged) (p : Package) → IsLaidOut list files judged p
+        → ExportsArePlain p.files → NoStaticMethods (world p) → UnboundAreOwn p }
+{}

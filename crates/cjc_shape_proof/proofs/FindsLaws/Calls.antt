@@ -1,4 +1,4 @@
--- The calls of a method of a package that breaks no rule.
+-- The calls of a method of a package that breaks no rule, whichever of its methods are in int mode.
 use Rattle.std.proofs.Common.{◌≡◌, ℕ, ◌+◌, ◌-◌, ◌<◌, ◌^◌, refl, sym, ap, subst, ◌∙◌, arith, Bool, true, false, List}
 use Rattle.std.proofs.Common.{length, inl, inr, ⊎_elim}
 use Rattle.std.specs.Prelude.{not, ◌&&◌, ◌||◌, ◌⊎◌, Option, Some, None, option_and_then, option_map, get_or, slice_get}
@@ -10,42 +10,45 @@ use Rattle.cjc_bytes.specs.Descriptor.{Parts}
 use Rattle.cjc_bytes.specs.Spots.{desc_of}
 use Rattle.cjc_bytes.specs.declared.fault.MemberId.{MemberId}
 use Rattle.cjc_bytes.specs.declared.settings.Settings.{Settings}
-use Rattle.cjc_bytes.proofs.Bools.{true_or_false, true_not_false, or_right}
+use Rattle.cjc_bytes.proofs.Bools.{bool_middle, true_or_false, true_not_false, or_right}
+use Rattle.cjc_classes.specs.JvmSemantics.Linked.{Callee, Method}
 use Rattle.cjc_classes.specs.JvmSemantics.OnePackage.{ResolvedMember, callee_at, interface_callee, is_constructor}
 use Rattle.cjc_classes.specs.JvmSemantics.OnePackage.{is_initialiser, method_hit, first_super, select_in}
 use Rattle.cjc_classes.specs.JvmSemantics.OnePackage.{selected_from}
 use Rattle.cjc_check_proof.specs.WorldProof.Calls.Solid.{HasCode, IsSolid}
-use Rattle.cjc_check_proof.specs.WorldProof.Calls.Targets.{IsReceiver}
+use Rattle.cjc_check_proof.specs.WorldProof.Calls.Targets.{IsReceiver, IsTarget, abroad, inside}
 use Rattle.cjc_check_proof.proofs.WorldProofOwn.{IsAt, hit_is, own_at}
 use Rattle.cjc_check_proof.proofs.WorldProofSelects.{is_selected, on_interface, on_object}
 use Rattle.cjc_check_proof.proofs.WorldProofSpecials.{above_callee, itself_callee}
 use Rattle.cjc_check_proof.proofs.WorldProofTypes.{below_type, type_below, receiver_class as receiver_plain}
 use Rattle.cjc_world.specs.ClassFile.declared.tree.ClassTree.{ClassTree}
+use Rattle.cjc_world.specs.ClassFile.declared.tree.MethodTree.{MethodTree}
 use Rattle.cjc_components.specs.Bytecode.declared.insn.JOp.TheVariants as jop
 use Rattle.cjc_components.specs.Bytecode.declared.method_code.MethodCode.{MethodCode}
-use Rattle.cjc_shape_proof.specs.Whole.{Accepts, AreTabled}
-use Rattle.cjc_shape_proof.proofs.FindsLaws.Begun.{chosen, reached}
+use Rattle.cjc_shape_proof.specs.Finds.{IsNamedMethod, IsReceiverFound, IsStaticFound, IsUsable}
+use Rattle.cjc_shape_proof.specs.Whole.{Accepts}
+use Rattle.cjc_shape_proof.specs.Written.Checked.{KeepsNames}
 use Rattle.cjc_shape_proof.proofs.FindsLaws.Callees.{result_there}
-use Rattle.cjc_shape_proof.proofs.FindsLaws.Descs.{member_desc}
+use Rattle.cjc_shape_proof.proofs.FindsLaws.Descs.{member_desc, parts_are}
 use Rattle.cjc_shape_proof.proofs.FindsLaws.Receivers.{named_of, receiver_of}
 use Rattle.cjc_narrow_proof.specs.Laws.Calls.{CallFits}
-use Rattle.cjc_narrow_proof.specs.Laws.Unbroken.{AreSpelt, IsInsnOf, IsUnbroken}
-use Rattle.cjc_narrow_proof.proofs.LawsLaws.Calls.{called_fits}
+use Rattle.cjc_shape_proof.proofs.WrittenLaws.Insns.{call_fits, op_fit, op_there}
+use Rattle.cjc_narrow_proof.specs.Laws.Unbroken.{AreSpelt, IsInsnOf}
 use Rattle.cjc_narrow_proof.proofs.LawsLaws.Handlers.{class_there}
-use Rattle.cjc_narrow_proof.proofs.LawsLaws.Instructions.{method_there, op_there}
+use Rattle.cjc_narrow_proof.proofs.LawsLaws.Instructions.{method_there}
 use Rattle.cjc_narrow_proof.proofs.LawsLaws.Own.{class_by_name, own_kept}
-use Rattle.cjc_narrow_proof.proofs.LawsLaws.OwnTypes.{called_word_desc}
-use Rattle.cjc_narrow_proof.specs.Runs.Calls.{IsCallee, IsReceiverOn, IsStaticOn, above_holder, by_interface, itself}
-use Rattle.cjc_narrow_proof.specs.Runs.Calls.{on_class}
-use Rattle.cjc_narrow_proof.specs.Runs.Tables.{Tables, look_ups}
+use Rattle.cjc_narrow_proof.specs.Runs.Calls.{above_holder, by_interface, itself, on_class}
 use Rattle.cjc_narrow_proof.specs.NCode.ByLabel.{Named}
+use Rattle.cjc_narrow_proof.specs.NCode.declared.narrow.NMethod.{NMethod}
 use Rattle.cjc_narrow_proof.specs.Script.Sorts.{Shape, shape_name}
 use Rattle.cjc_narrow_proof.specs.Selection.Relation.{IsMadeOf}
 use Rattle.cjc_check_proof.specs.WorldProof.Files.{AreReadFiles}
+use Rattle.cjc_classes.specs.Narrow.Rows.Package.{named}
 use Rattle.cjc_classes.specs.Subset.Names.{is_bodiless, is_hidden, is_name_missing, is_unfit_call, is_unfit_class}
 use Rattle.cjc_classes.specs.Subset.Names.{is_unfit_method, is_unfit_super, is_unfit_virtual, names_missing}
 use Rattle.cjc_classes.specs.Subset.Names.{names_unfit}
 use Rattle.cjc_classes.specs.Subset.Members as subset
+use Rattle.cjc_classes.specs.Subset.Types.{is_unsupported_desc, is_unsupported_name, names_unsupported}
 use Rattle.cjc_narrow_proof.specs.Tables.Kinds.{is_one_of}
 use Rattle.cjc_classes.specs.Types.declared.cell.Cell.{Cell}
 use Rattle.cjc_classes.specs.Types.Flow.{Body}
@@ -94,15 +97,20 @@ same_hit w f d m e = by (class_at w f.imported f.class) e
     by None e = absurd cc
     by (Some c) e = go c (slice_get c.methods (f.member - length c.fields)) e
 
-module _ (list : List ℕ) (files : Files) (codes : List MethodCode) (settings : Settings) (is : IsUnbroken list files
+-- What holds of the methods that a call may reach, where it follows from what is known of them.
+target_as : {files : Files} {id : MemberId} {P Q : ClassTree → MethodTree → Type 0} {callee : Callee}
+    → ((t : ClassTree) (k : MethodTree) → P t k → Q t k) → IsTarget files id P callee → IsTarget files id Q callee
+target_as f (inside code holds) = inside code (f code.class code.method holds)
+target_as f (abroad e) = abroad e
+
+module _ (list : List ℕ) (files : Files) (codes : List MethodCode) (settings : Settings) (is : KeepsNames list files
     codes settings) (spelt : AreSpelt files) (read : AreReadFiles files) (solid : IsSolid files)
-    (root : IsReceiver (all_classes files) object)
-    (image : StaticImage) (near : List MemberId) (tables : Tables) (tabled : AreTabled files codes tables) where
+    (root : IsReceiver (all_classes files) object) (image : StaticImage) (written : Method → NMethod) where
   abbrev w : List Class
   w = all_classes files
 
   abbrev l : Named
-  l = look_ups files image near tables
+  l = named files image written
 
   -- What is known of a call of a method by name.
   pub record IsNamedCall (class : ClassTree) (op : ℕ) (id : MemberId) : Type 0 where
@@ -112,7 +120,7 @@ module _ (list : List ℕ) (files : Files) (codes : List MethodCode) (settings :
     pub at : IsAt false id.name id.desc owner place
     pub below : Below w id.class owner.name
     pub named : class_named w owner.name ≡ Some owner
-    pub callee : IsCallee files id
+    pub callee : IsNamedMethod files id
     pub hit_is_owner : (let c = callee in let h = c.hit in h.owner) ≡ owner
     pub place_is : (let c = callee in c.place) ≡ place
     pub fits : CallFits op id.name (let m = at.member in m.flags)
@@ -126,7 +134,7 @@ module _ (list : List ℕ) (files : Files) (codes : List MethodCode) (settings :
 
   named_call : (class : ClassTree) (op : ℕ) (id : MemberId) → IsInsnOf files codes class (jop.Call op id)
       → IsNamedCall class op id
-  unfolding names_missing names_unfit subset.hit
+  unfolding names_missing names_unfit names_unsupported subset.hit
   named_call class op id at =
       let ok = op_there list files codes settings is class (jop.Call op id) at in
       let there = method_there files class op id ok.0 ok.1 in
@@ -139,12 +147,13 @@ module _ (list : List ℕ) (files : Files) (codes : List MethodCode) (settings :
       let numbered = solid.numbered d.name d above.2 in
       let hit : method_hit w f ≡ Some (record { owner = d; flags = m.flags }) = ap (method_hit w) place.is
       ∙ hit_is w d place.place m numbered place.is_member in
-      let fits = called_fits list files codes settings is class op id at f (record { owner = d; flags = m.flags }) found
-      hit in
+      let fit = sym (ap (is_unfit_method w class op id) (tested f d m found hit)) ∙ ok.2 in
+      let fits = call_fits op id.name m.flags (bool_middle (is_hidden w class id (tested_hit d m)) (is_unfit_call op
+      id.name m.flags) (is_unfit_class w class op id (tested_hit d m)) fit) in
       let desc = member_desc files read d above.2 place.place m place.is_member in
       let short : length id.desc < 2 ^ 32 = subst (λ v. length v < 2 ^ 32) place.has_desc desc.1 in
       let parsed = subst (λ v. (q : Parts) × (desc_of v ≡ Some q) × (q.is_method ≡ true)) place.has_desc desc.0 in
-      let words = called_word_desc list files codes settings is class op id at parsed.0 short parsed.1 parsed.2 in
+      let unsupported = (op_fit list files codes settings is class (jop.Call op id) at).0 in
       let open_name = solid.plain id.class there.0 there.2 in
       let missing = or_right (is_name_missing w id.class) (is_desc_missing w id.desc) ok.0 in
       record {
@@ -163,15 +172,20 @@ module _ (list : List ℕ) (files : Files) (codes : List MethodCode) (settings :
           above = below_type w id.class d.name (solid.plain d.name d above.2) (subst (λ x. Below w x d.name)
               (sym (receiver_plain id.class open_name)) above.1);
           no_initialiser = fits.no_initialiser;
-          desc = words;
-          result = result_there w id.desc short words.is_desc missing;
+          desc = record {
+            types = parsed.0;
+            short = short;
+            is_desc = parsed.1;
+            of_method = parsed.2;
+            supported = or_right (is_unsupported_name id.class) (is_unsupported_desc id.desc) unsupported;
+          };
+          result = result_there w id.desc short (parts_are id.desc parsed.0 short parsed.1) missing;
         };
         hit_is_owner = refl;
         place_is = refl;
         fits = fits;
-        fit_class = middle (is_hidden w class id (record { owner = d; flags = m.flags })) (is_unfit_call op id.name
-            m.flags) (is_unfit_class w class op id (record { owner = d; flags = m.flags }))
-            (sym (ap (is_unfit_method w class op id) (tested f d m found hit)) ∙ ok.2);
+        fit_class = middle (is_hidden w class id (tested_hit d m)) (is_unfit_call op id.name m.flags)
+            (is_unfit_class w class op id (tested_hit d m)) fit;
       }
     where
       tested : (f : Found) (d : Class) (m : Member) → find_method w id.class id.name id.desc ≡ Some f
@@ -179,10 +193,15 @@ module _ (list : List ℕ) (files : Files) (codes : List MethodCode) (settings :
           → subset.hit w false (find_method w id.class id.name id.desc) ≡ Some (record { owner = d; flags = m.flags })
       tested f d m e h = ap (subset.hit w false) e ∙ same_hit w f d m h
 
+  -- 301 of a method that code names
+  pub called_usable : (class : ClassTree) (op : ℕ) (id : MemberId) → IsInsnOf files codes class (jop.Call op id)
+      → IsUsable true id.desc
+  called_usable class op id at = let c = named_call class op id at in let k = c.callee in k.desc
+
   -- ---- static calls
 
   pub static_call : (class : ClassTree) (id : MemberId) → IsInsnOf files codes class (jop.Call 0xB8 id)
-      → IsStaticOn files tables id
+      → IsStaticFound files id
   unfolding named_call
   static_call class id at =
       let c = named_call class 0xB8 id at in
@@ -194,26 +213,22 @@ module _ (list : List ℕ) (files : Files) (codes : List MethodCode) (settings :
         no_constructor = (let f = c.fits in f.no_constructor) refl;
         callee = to.0;
         reaches = to.1;
-        is_reached = reached list files codes settings is spelt tables tabled id (let f = c.fits in f.no_initialiser) _
-            to.0 (λ t k h. h.0 ∙ static) to.2;
+        target = target_as (λ t k h. h.0 ∙ static) to.2;
       }
 
   -- ---- calls on a receiver
 
   -- the class that a type is of, and what stands there
   known_receiver : (kind : Shape (List ℕ)) → IsMadeOf l kind → IsReceiver w (receiver (shape_name kind))
-  known_receiver kind made = receiver_of files image near tables solid root kind made
+  known_receiver kind made = receiver_of files image written solid root kind made
 
   known_below : (cls : List ℕ) (c : Class) → class_named w cls ≡ Some c
       → (names : List (List ℕ)) (kind : Shape (List ℕ)) → list_all (λ name. is_subtype w name cls) names ≡ true
       → is_one_of l names kind ≡ true → (is_subtype w (shape_name kind) cls ≡ true)
       × Below w (receiver (shape_name kind)) cls
   known_below cls c there names kind all one =
-      let sub = named_of files image near tables solid root cls names kind all one in
+      let sub = named_of files image written solid root cls names kind all one in
       (sub, type_below w (shape_name kind) cls (solid.plain cls c there) sub)
-
-  plain_name : (op : ℕ) (id : MemberId) (flags : ℕ) → CallFits op id.name flags → is_initialiser id.name ≡ false
-  plain_name op id flags f = f.no_initialiser
 
   -- the class that an instruction names
   class_of_call : (class : ClassTree) (op : ℕ) (id : MemberId) → IsInsnOf files codes class (jop.Call op id)
@@ -223,7 +238,7 @@ module _ (list : List ℕ) (files : Files) (codes : List MethodCode) (settings :
 
   pub virtual_call : (b : Body) (stack : List Cell) (holder : List ℕ) (class : ClassTree) (id : MemberId)
       → IsInsnOf files codes class (jop.Call 0xB6 id) → Accepts files b 0xB6 id stack
-      → IsReceiverOn files l tables holder stack 0xB6 id
+      → IsReceiverFound files l holder stack 0xB6 id
   unfolding named_call
   virtual_call b stack holder class id at accepts_one =
       let c = named_call class 0xB6 id at in
@@ -250,8 +265,7 @@ module _ (list : List ℕ) (files : Files) (codes : List MethodCode) (settings :
               is_of = sub.0;
               callee = to.0;
               chooses = to.1;
-              is_chosen = chosen list files codes settings is spelt
-                  tables tabled solid.plain id f.no_initialiser (shape_name kind) _ to.0 (λ t k h. h) to.2;
+              target = to.2;
             });
       }
     where
@@ -273,7 +287,7 @@ module _ (list : List ℕ) (files : Files) (codes : List MethodCode) (settings :
 
   pub interface_call : (b : Body) (stack : List Cell) (holder : List ℕ) (class : ClassTree) (id : MemberId)
       → IsInsnOf files codes class (jop.Call 0xB9 id) → Accepts files b 0xB9 id stack
-      → IsReceiverOn files l tables holder stack 0xB9 id
+      → IsReceiverFound files l holder stack 0xB9 id
   unfolding named_call
   interface_call b stack holder class id at accepts_one =
       let c = named_call class 0xB9 id at in
@@ -300,8 +314,7 @@ module _ (list : List ℕ) (files : Files) (codes : List MethodCode) (settings :
               is_of = sub.0;
               callee = to.0;
               chooses = to.1;
-              is_chosen = chosen list files codes settings is spelt
-                  tables tabled solid.plain id f.no_initialiser (shape_name kind) _ to.0 (λ t k h. h) to.2;
+              target = to.2;
             });
       }
     where
@@ -355,7 +368,7 @@ module _ (list : List ℕ) (files : Files) (codes : List MethodCode) (settings :
             in m.flags);
       }
       → (is_constructor id.name || is_private (let p = c.at in let m = p.member in m.flags)) ≡ true
-      → IsReceiverOn files l tables holder stack 0xB7 id
+      → IsReceiverFound files l holder stack 0xB7 id
   itself_call b stack holder class id at accepts_one c same special =
       let f = c.fits in
       let p = c.at in
@@ -383,12 +396,11 @@ module _ (list : List ℕ) (files : Files) (codes : List MethodCode) (settings :
               callee = to.0;
               chooses = ap (λ (h : ResolvedMember). let owner = h.owner in callee_at files owner.name id k.place) same
                   ∙ ap (callee_at files d.name id) c.place_is ∙ to.1;
-              is_chosen = chosen list files codes settings is spelt tables tabled solid.plain id f.no_initialiser
-                  (shape_name kind) _ to.0 (λ t q h. (
-                    h.0 ∙ static,
-                    subst (λ n. Below w (receiver (shape_name kind)) n)
-                        (sym h.1) below,
-                  )) to.2;
+              target = target_as (λ t q h. (
+                h.0 ∙ static,
+                subst (λ n. Below w (receiver (shape_name kind)) n)
+                    (sym h.1) below,
+              )) to.2;
             });
       }
 
@@ -435,7 +447,7 @@ module _ (list : List ℕ) (files : Files) (codes : List MethodCode) (settings :
         flags = (let p = c.at in let m = p.member in m.flags);
       }
       → (is_constructor id.name || is_private (let p = c.at in let m = p.member in m.flags)) ≡ false
-      → IsReceiverOn files l tables class.name stack 0xB7 id
+      → IsReceiverFound files l class.name stack 0xB7 id
   above_call b stack class id is_holder at accepts_one c same plain =
       let f = c.fits in
       let p = c.at in
@@ -468,12 +480,11 @@ module _ (list : List ℕ) (files : Files) (codes : List MethodCode) (settings :
               is_of = sub.0;
               callee = to.0;
               chooses = to.1;
-              is_chosen = chosen list files codes settings is spelt tables tabled solid.plain id f.no_initialiser
-                  (shape_name kind) _ to.0 (λ t q h. (
-                    h.0,
-                    below_on w (receiver (shape_name kind)) class.name t.name
-                        sub.1 h.1,
-                  )) to.2;
+              target = target_as (λ t q h. (
+                h.0,
+                below_on w (receiver (shape_name kind)) class.name t.name
+                    sub.1 h.1,
+              )) to.2;
             });
       }
     where
@@ -484,7 +495,7 @@ module _ (list : List ℕ) (files : Files) (codes : List MethodCode) (settings :
 
   pub special_call : (b : Body) (stack : List Cell) (class : ClassTree) (id : MemberId) → b.class ≡ class.name
       → IsInsnOf files codes class (jop.Call 0xB7 id) → Accepts files b 0xB7 id stack
-      → IsReceiverOn files l tables class.name stack 0xB7 id
+      → IsReceiverFound files l class.name stack 0xB7 id
   unfolding named_call
   special_call b stack class id is_holder at accepts_one =
       let c = named_call class 0xB7 id at in

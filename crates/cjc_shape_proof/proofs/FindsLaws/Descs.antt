@@ -1,6 +1,7 @@
 -- The descriptors of methods and fields of read files.
-use Rattle.std.proofs.Common.{◌≡◌, ℕ, ◌<◌, ◌^◌, refl, sym, ap, subst, arith, Bool, true, false, List, [], length}
+use Rattle.std.proofs.Common.{◌≡◌, ℕ, ◌<◌, ◌^◌, refl, sym, ap, subst, ◌∙◌, arith, Bool, true, false, List, [], length}
 use Rattle.std.specs.Prelude.{Option, Some, None, option_and_then, slice_get, if◌then◌else◌}
+use Rattle.std.proofs.lemmas.Bool.{lt-ltb}
 use Rattle.cjc_bytes.specs.Descriptor.{Parts}
 use Rattle.cjc_bytes.specs.Spots.{desc_of}
 use Rattle.cjc_check_proof.proofs.WorldProofOwn.{mapped_at}
@@ -12,7 +13,9 @@ use Rattle.cjc_world.specs.ExportFile.Writable.{ClassFits, MethodStands}
 use Rattle.cjc_bytes.specs.AccessFlags.{is_interface}
 use Rattle.cjc_bytes.proofs.Gets.{all_at}
 use Rattle.cjc_components.specs.Bytecode.ReadLaws.Members.{IsDescOf, IsReadClass}
+use Rattle.cjc_classes.specs.Types.Types.{no_parts, parts, parts_or_none}
 use Rattle.cjc_narrow_proof.proofs.BytecodeMembers.{read_class}
+use Rattle.cjc_narrow_proof.specs.Tables.Names.{IsDesc}
 use Rattle.cjc_check_proof.specs.WorldProof.Files.{AreReadFiles}
 use Rattle.cjc_classes.specs.Subset.Members.{imports}
 use Rattle.cjc_vtable.proofs.Filed.{IsFiled, filed, get-has, has-get, in_class_file}
@@ -35,6 +38,15 @@ kept_desc desc e = by (desc_of desc) refl e
             × (desc_of desc ≡ Some d) × (d.is_method ≡ true)
         go true g e = (d, f, g)
         go false g e = absurd cc
+
+-- a descriptor of a length that 32 bits count has its parts
+pub parts_are : (desc : List ℕ) (d : Parts) → length desc < 2 ^ 32 → desc_of desc ≡ Some d → IsDesc desc
+unfolding parts
+parts_are desc d short is =
+    let fits = lt-ltb (length desc) (2 ^ 32) short in
+    let same : parts desc ≡ d = ap (λ b. if b then parts_or_none (desc_of desc) else no_parts) fits
+    ∙ ap parts_or_none is in
+    is ∙ ap Some (sym same)
 
 module _ (files : Files) (read : AreReadFiles files) where
   pub read_of : (n : ℕ) (c : ClassTree) → slice_get files.classes n ≡ Some c → IsReadClass c

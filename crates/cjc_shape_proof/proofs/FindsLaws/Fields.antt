@@ -33,19 +33,21 @@ use Rattle.cjc_components.specs.Bytecode.declared.method_code.MethodCode.{Method
 use Rattle.cjc_world.specs.ExportFile.Members.{is_constant_type, may_be_constant}
 use Rattle.cjc_shape_proof.proofs.FindsLaws.Descs.{read_of}
 use Rattle.cjc_shape_proof.proofs.FindsLaws.Receivers.{made_class, named_of, plain_class, receiver_of}
-use Rattle.cjc_narrow_proof.specs.Laws.Unbroken.{IsInsnOf, IsUnbroken}
-use Rattle.cjc_narrow_proof.proofs.LawsLaws.Instructions.{field_there, op_fit, op_there}
+use Rattle.cjc_shape_proof.proofs.WrittenLaws.Insns.{op_fit, op_there}
+use Rattle.cjc_shape_proof.specs.Finds.{IsFieldFound, IsUsable}
+use Rattle.cjc_shape_proof.specs.Written.Checked.{KeepsNames}
+use Rattle.cjc_narrow_proof.specs.Laws.Unbroken.{IsInsnOf}
+use Rattle.cjc_narrow_proof.proofs.LawsLaws.Instructions.{field_there}
 use Rattle.cjc_narrow_proof.proofs.LawsLaws.WordTypes.{type_values, type_word}
-use Rattle.cjc_narrow_proof.specs.Runs.Names.{IsFieldOf, IsWordField}
-use Rattle.cjc_narrow_proof.specs.Runs.Tables.{Tables, look_ups}
+use Rattle.cjc_narrow_proof.specs.Runs.Names.{IsWordField}
 use Rattle.cjc_classes.specs.Narrow.Rows.Package.{named}
 use Rattle.cjc_narrow_proof.specs.NCode.ByLabel.{Named}
+use Rattle.cjc_narrow_proof.specs.NCode.declared.narrow.NMethod.{NMethod}
 use Rattle.cjc_narrow_proof.specs.NCode.PoolOrder.{same_member}
 use Rattle.cjc_narrow_proof.specs.Script.Sorts.{Booleans, Bytes, Ints, Shorts, OfClass, OfNumbers, OfReferences, Shape}
 use Rattle.cjc_narrow_proof.specs.Script.Sorts.{shape_name}
 use Rattle.cjc_narrow_proof.specs.Script.Sorts.{field_sort, sort_of, sort_or_none}
 use Rattle.cjc_narrow_proof.specs.Selection.Objects.{has_values}
-use Rattle.cjc_narrow_proof.proofs.SelectedLaws.IntFree.{op_free}
 use Rattle.cjc_narrow_proof.specs.Selection.Relation.{HasObjects, IsMadeOf, bare, made}
 use Rattle.cjc_narrow_proof.specs.Selection.Rows.{HasField, is_word_sort, lists}
 use Rattle.cjc_check_proof.specs.WorldProof.Files.{AreReadFiles}
@@ -56,7 +58,6 @@ use Rattle.cjc_vtable.proofs.SubsetFits.{field_fits}
 use Rattle.cjc_classes.specs.Subset.Names.{is_constant_found, is_hidden, is_other_kind, is_unfit_field, names_unfit}
 use Rattle.cjc_classes.specs.Subset.Types.{is_any_unsupported, is_any_int, is_unsupported_desc, is_unsupported_name}
 use Rattle.cjc_classes.specs.Subset.Types.{is_unsupported_part, is_int_desc, is_int_part, names_unsupported}
-use Rattle.cjc_classes.specs.Subset.Ints.{works_on_int}
 use Rattle.cjc_classes.specs.Types.declared.cell.Cell.{Cell}
 use Rattle.cjc_classes.specs.Types.declared.cell.Cell.TheVariants.{Refs}
 use Rattle.cjc_classes.specs.Types.Types.{no_parts, parts, parts_or_none}
@@ -151,15 +152,15 @@ tested_field w d place m numbered there =
     ap (λ o. subset.hit_of true (member_at d place) o) numbered ∙ ap (λ k. option_map (tested d) (slice_get d.fields k))
     off ∙ ap (option_map (tested d)) there
 
-module _ (list : List ℕ) (files : Files) (codes : List MethodCode) (settings : Settings) (is : IsUnbroken list files
+module _ (list : List ℕ) (files : Files) (codes : List MethodCode) (settings : Settings) (is : KeepsNames list files
     codes settings) (read : AreReadFiles files) (solid : IsSolid files) (root : IsReceiver (all_classes files) object)
     (root_abroad : (let r = root in let c = r.class in c.is_imported) ≡ true)
-    (image : StaticImage) (near : List MemberId) (tables : Tables) where
+    (image : StaticImage) (written : Method → NMethod) where
   abbrev w : List Class
   w = all_classes files
 
   abbrev l : Named
-  l = look_ups files image near tables
+  l = named files image written
 
   -- 310: a field of objects that code names is no imported class's
   no_import : (d : Class) → IsFiled files d → (place : ℕ) (m : Member) → slice_get d.fields place ≡ Some m
@@ -313,12 +314,11 @@ module _ (list : List ℕ) (files : Files) (codes : List MethodCode) (settings :
   has_field id k (OfNumbers Ints) below one r = absurd (array_not id k below)
   has_field id k (OfReferences class) below one r = absurd (array_not id k below)
 
-  pub field_is : (class : ClassTree) (put : Bool) (id : MemberId) → IsInsnOf files codes class (jop.Field put id)
-      → (cell : Cell) → ((names : List (List ℕ)) → cell ≡ Refs names → list_all (λ name. is_subtype w name id.class)
-      names ≡ true)
-      → (m : Method) → (f : MemberId) × IsFieldOf files image near tables m id f cell
-  unfolding names_unsupported works_on_int
-  field_is class put id at cell accepts_one m =
+  -- 301 of a field of objects that code names
+  pub field_usable : (class : ClassTree) (put : Bool) (id : MemberId) → IsInsnOf files codes class (jop.Field put id)
+      → IsUsable false id.desc
+  unfolding names_unsupported
+  field_usable class put id at =
       let k = known_field class put id at in
       let d = k.owner in
       let p = k.at in
@@ -334,17 +334,25 @@ module _ (list : List ℕ) (files : Files) (codes : List MethodCode) (settings :
       let short : length x.desc < 2 ^ 32 = (let s = one.desc in omega (arith, s)) in
       let parsed = (let r = read_of files read d.number u t.1 in r.fields) p.place x c.1 in
       let unsupported = (op_fit list files codes settings is class (jop.Field put id) at).0 in
-      let no_unsupported : is_unsupported_desc id.desc ≡ false = or_right (is_unsupported_name id.class)
-      (is_unsupported_desc id.desc) unsupported in
-      let no_int : is_int_desc id.desc ≡ false = op_free files codes is.no_int class (jop.Field put id) at in (
-        of_class d.name id,
-        record {
-          desc = word_field id.desc parsed.0 (subst (λ v. length v < 2 ^ 32) desc_is short) (ap desc_of (sym desc_is)
-              ∙ parsed.1) parsed.2 no_unsupported no_int;
-          found = named_is id k;
-          has = λ names on kind some one.
-              (let sub = named_of files image near tables solid root id.class names kind (accepts_one names on) some in
-              has_field id k kind (type_below w (shape_name kind) id.class k.open_name sub) one (receiver_of files image
-              near tables solid root kind one));
-        },
-      )
+      record {
+        types = parsed.0;
+        short = subst (λ v. length v < 2 ^ 32) desc_is short;
+        is_desc = ap desc_of (sym desc_is) ∙ parsed.1;
+        of_method = parsed.2;
+        supported = or_right (is_unsupported_name id.class) (is_unsupported_desc id.desc) unsupported;
+      }
+
+  pub field_is : (class : ClassTree) (put : Bool) (id : MemberId) → IsInsnOf files codes class (jop.Field put id)
+      → (cell : Cell) → ((names : List (List ℕ)) → cell ≡ Refs names → list_all (λ name. is_subtype w name id.class)
+      names ≡ true) → IsFieldFound files l id cell
+  field_is class put id at cell accepts_one =
+      let k = known_field class put id at in
+      record {
+        target = of_class (let d = k.owner in d.name) id;
+        desc = field_usable class put id at;
+        found = named_is id k;
+        has = λ names on kind some one.
+            (let sub = named_of files image written solid root id.class names kind (accepts_one names on) some in
+            has_field id k kind (type_below w (shape_name kind) id.class k.open_name sub) one (receiver_of files image
+            written solid root kind one));
+      }

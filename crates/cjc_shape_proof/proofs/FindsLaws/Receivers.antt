@@ -4,13 +4,15 @@ use Rattle.std.specs.Prelude.{not, ◌&&◌, ◌||◌, Option, Some, None, optio
 use Rattle.std.specs.List.{list_all}
 use Rattle.cjc_bytes.specs.AccessFlags.{is_abstract, is_interface}
 use Rattle.cjc_bytes.specs.declared.fault.MemberId.{MemberId}
+use Rattle.cjc_classes.specs.JvmSemantics.Linked.{Method}
 use Rattle.cjc_classes.specs.JvmSemantics.OnePackage.{is_made, is_plain_import, made_of, object_fields}
 use Rattle.cjc_check_proof.specs.WorldProof.Calls.Solid.{IsSolid}
 use Rattle.cjc_check_proof.specs.WorldProof.Calls.Targets.{IsReceiver}
+use Rattle.cjc_check_proof.specs.WorldProof.Files.{ExportsAreSound}
 use Rattle.cjc_check_proof.proofs.WorldProofTypes.{receiver_class}
 use Rattle.cjc_classes.specs.Narrow.Rows.Package.{named, plain_import}
-use Rattle.cjc_narrow_proof.specs.Runs.Tables.{Tables, look_ups}
 use Rattle.cjc_narrow_proof.specs.NCode.ByLabel.{Named}
+use Rattle.cjc_narrow_proof.specs.NCode.declared.narrow.NMethod.{NMethod}
 use Rattle.cjc_narrow_proof.specs.Script.Sorts.{Booleans, Bytes, Ints, OfClass, OfNumbers, OfReferences, Shape, Shorts}
 use Rattle.cjc_narrow_proof.specs.Script.Sorts.{shape_name}
 use Rattle.cjc_narrow_proof.specs.Script.Sorts.{shape_named}
@@ -18,7 +20,7 @@ use Rattle.cjc_narrow_proof.specs.Selection.Relation.{HasObjects, IsMadeOf, bare
 use Rattle.cjc_narrow_proof.specs.Selection.Replies.{is_of_some}
 use Rattle.cjc_narrow_proof.specs.Tables.Kinds.{is_named, is_one_of}
 use Rattle.cjc_narrow_proof.proofs.TablesLaws.Spelt.{shape_spelt}
-use Rattle.cjc_world.specs.Classes.{Class, all_classes, class_named}
+use Rattle.cjc_world.specs.Classes.{Class, all_classes, class_named, imported}
 use Rattle.cjc_world.specs.Files.{Files}
 use Rattle.cjc_world.specs.Lookup.{object, receiver}
 use Rattle.cjc_world.specs.Subtype.{is_subtype}
@@ -85,13 +87,28 @@ plain_class w name other e = by (class_named w name) refl e
           no_interface = h.1;
         }
 
-module _ (files : Files) (image : StaticImage) (near : List MemberId) (tables : Tables) (solid : IsSolid files)
+-- java/lang/Object, which is imported
+pub root_of : (files : Files) → ExportsAreSound files → IsReceiver (all_classes files) object
+root_of files sound = let r = sound.root in record {
+  class = imported r.number r.class;
+  named = r.found;
+  no_interface = r.no_interface;
+  made = inl refl;
+}
+
+pub root_abroad : (files : Files) (sound : ExportsAreSound files) → (let r = root_of files sound in let c = r.class
+    in c.is_imported) ≡ true
+unfolding root_of
+root_abroad files sound = refl
+
+-- whatever is written for the methods of the package
+module _ (files : Files) (image : StaticImage) (written : Method → NMethod) (solid : IsSolid files)
     (root : IsReceiver (all_classes files) object) where
   abbrev w : List Class
   w = all_classes files
 
   abbrev l : Named
-  l = look_ups files image near tables
+  l = named files image written
 
   of_class : (class : List ℕ) (fields : List MemberId) → HasObjects l class fields → IsReceiver w class
   unfolding named

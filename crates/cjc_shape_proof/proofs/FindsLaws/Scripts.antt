@@ -1,4 +1,4 @@
--- What scripts name: a method of the package, or none.
+-- What scripts name: a method of the package, or none, whichever of its methods are in int mode.
 use Rattle.std.proofs.Common.{◌≡◌, ℕ, ◌<◌, ◌^◌, refl, sym, ap, subst, ◌∙◌, arith, Bool, true, false, List}
 use Rattle.std.proofs.Common.{length, ⊎_elim}
 use Rattle.std.specs.Prelude.{not, ◌&&◌, Option, Some, None, option_and_then, slice_get, if◌then◌else◌}
@@ -15,7 +15,7 @@ use Rattle.cjc_classes.specs.JvmSemantics.OnePackage.{entry_in, entry_named, is_
 use Rattle.cjc_classes.specs.JvmSemantics.OnePackage.{is_sendable}
 use Rattle.cjc_classes.specs.JvmSemantics.OnePackage.{method_at, method_hit, select_in, sent_by, sent_named}
 use Rattle.cjc_check_proof.specs.WorldProof.Calls.Solid.{IsSolid}
-use Rattle.cjc_check_proof.specs.WorldProof.Calls.Targets.{IsOwnCode, IsReceiver, IsSentTo}
+use Rattle.cjc_check_proof.specs.WorldProof.Calls.Targets.{IsReceiver, IsSentTo}
 use Rattle.cjc_check_proof.proofs.WorldProofOwn.{own_at}
 use Rattle.cjc_check_proof.proofs.WorldProofScripts.{called_method, sent_method}
 use Rattle.cjc_check_proof.proofs.WorldProofSelects.{own_tree}
@@ -25,25 +25,21 @@ use Rattle.cjc_world.specs.ClassFile.Fits as fits
 use Rattle.cjc_world.specs.ClassFile.declared.tree.ClassTree.{ClassTree}
 use Rattle.cjc_world.specs.ClassFile.declared.tree.MethodTree.{MethodTree}
 use Rattle.cjc_components.specs.Bytecode.declared.method_code.MethodCode.{MethodCode}
-use Rattle.cjc_classes.specs.Subset.Types.{is_int_desc}
-use Rattle.cjc_shape_proof.specs.Whole.{AreTabled}
-use Rattle.cjc_shape_proof.proofs.FindsLaws.Begun.{begun, declarer}
+use Rattle.cjc_shape_proof.specs.Finds.{IsMemberFound, IsScriptFound, IsUsable, finds_member, finds_none}
+use Rattle.cjc_shape_proof.specs.Written.Checked.{KeepsNames}
 use Rattle.cjc_shape_proof.proofs.FindsLaws.Callees.{params_there}
-use Rattle.cjc_shape_proof.proofs.FindsLaws.Descs.{read_of}
+use Rattle.cjc_shape_proof.proofs.FindsLaws.Descs.{parts_are, read_of}
 use Rattle.cjc_shape_proof.proofs.FindsLaws.Receivers.{receiver_of}
-use Rattle.cjc_narrow_proof.specs.Laws.Unbroken.{AreSpelt, IsUnbroken}
 use Rattle.cjc_narrow_proof.proofs.LawsLaws.Own.{class_by_name, own_kept}
 use Rattle.cjc_check_proof.proofs.WorldProofRules.{method_kept}
-use Rattle.cjc_narrow_proof.proofs.LawsLaws.WordTypes.{word_desc}
-use Rattle.cjc_narrow_proof.proofs.SelectedLaws.IntFree.{code_free, own_desc}
-use Rattle.cjc_narrow_proof.specs.Runs.Converted.{IsFound, IsMember, a_member, no_method}
-use Rattle.cjc_narrow_proof.specs.Runs.Tables.{Tables, look_ups}
+use Rattle.cjc_classes.specs.Narrow.Rows.Package.{named}
 use Rattle.cjc_narrow_proof.specs.Runs.Types.{IsThere}
 use Rattle.cjc_narrow_proof.specs.NCode.ByLabel.{Named}
+use Rattle.cjc_narrow_proof.specs.NCode.declared.narrow.NMethod.{NMethod}
 use Rattle.cjc_narrow_proof.specs.Script.Sorts.{Reference, Shape, shape_name}
 use Rattle.cjc_narrow_proof.specs.Selection.Relation.{IsMadeOf}
 use Rattle.cjc_check_proof.specs.WorldProof.Files.{AreReadFiles}
-use Rattle.cjc_narrow_proof.specs.Tables.Calls.{IsWordDesc, types_of}
+use Rattle.cjc_narrow_proof.specs.Tables.Calls.{types_of}
 use Rattle.cjc_world.proofs.UpwardLaws.Lines.{first_has, line_named, of_line}
 use Rattle.cjc_world.specs.declared.found.Found.{Found}
 use Rattle.cjc_world.specs.declared.image.StaticImage.{StaticImage}
@@ -54,7 +50,7 @@ use Rattle.cjc_world.specs.Lookup.{find_method, is_selectable, object, own_metho
 use Rattle.cjc_world.specs.Subtype.{is_subtype}
 
 -- nothing, where something is impossible
-none_where : {A : Type 0} (o : Option A) → ((a : A) → o ≡ Some a → ⊥) → o ≡ None
+pub none_where : {A : Type 0} (o : Option A) → ((a : A) → o ≡ Some a → ⊥) → o ≡ None
 none_where None h = refl
 none_where (Some a) h = absurd (h a refl)
 
@@ -106,12 +102,12 @@ declared_none files id e o =
     true_not_false (is_method_of id k) yes b
 
 -- a script names no initialiser
-called_plain : (files : Files) (w : List Class) (id : MemberId) (m : Method) → entry_named files w id ≡ Some m
+pub called_plain : (files : Files) (w : List Class) (id : MemberId) (m : Method) → entry_named files w id ≡ Some m
     → is_initialiser id.name ≡ false
 called_plain files w id m e = not_far (is_initialiser id.name) (option_and_then (entry_in files id)
     (class_named w id.class)) m e
 
-sent_plain : (files : Files) (w : List Class) (type : List ℕ) (id : MemberId) (m : Method) → sent_named files w type id
+pub sent_plain : (files : Files) (w : List Class) (type : List ℕ) (id : MemberId) (m : Method) → sent_named files w type id
     ≡ Some m → is_initialiser id.name ≡ false
 sent_plain files w type id m e =
     let one = then_some (λ f. option_and_then (sent_by files w (select_in w) type id) (method_hit w f))
@@ -183,17 +179,16 @@ module _ (files : Files) (solid : IsSolid files) where
         desc = sym (ap (λ (q : Member). q.desc) k.5) ∙ p.has_desc;
       }
 
-module _ (list : List ℕ) (files : Files) (codes : List MethodCode) (settings : Settings) (is : IsUnbroken list files
-    codes settings) (spelt : AreSpelt files) (read : AreReadFiles files) (solid : IsSolid files)
-    (root : IsReceiver (all_classes files) object)
-    (image : StaticImage) (near : List MemberId) (tables : Tables) (tabled : AreTabled files codes tables) where
+module _ (list : List ℕ) (files : Files) (codes : List MethodCode) (settings : Settings) (is : KeepsNames list files
+    codes settings) (read : AreReadFiles files) (solid : IsSolid files) (root : IsReceiver (all_classes files) object)
+    (image : StaticImage) (written : Method → NMethod) where
   abbrev w : List Class
   w = all_classes files
 
   abbrev l : Named
-  l = look_ups files image near tables
+  l = named files image written
 
-  -- a method of the package has types of one word, and what it takes is there
+  -- a method of the package has a short descriptor
   own_short : (n k : ℕ) (t : ClassTree) (method : MethodTree) → slice_get files.classes n ≡ Some t
       → slice_get t.methods k ≡ Some method → length method.desc < 2 ^ 32
   own_short n k t method is_class is_method =
@@ -203,65 +198,46 @@ module _ (list : List ℕ) (files : Files) (codes : List MethodCode) (settings :
       let short = one.desc in omega (arith, short)
 
   -- what is sent to what may be there
-  sent_to : (id : MemberId) (kind : Shape (List ℕ)) (m : Method) → IsMadeOf l kind → sent_named files w
+  pub sent_to : (id : MemberId) (kind : Shape (List ℕ)) (m : Method) → IsMadeOf l kind → sent_named files w
       (shape_name kind) id ≡ Some m → IsSentTo files (receiver (shape_name kind)) id m
-  sent_to id kind m made e = sent_method files solid (shape_name kind) (receiver_of files image near tables solid root
+  sent_to id kind m made e = sent_method files solid (shape_name kind) (receiver_of files image written solid root
       kind made) id m e
 
-  -- a method with code that is no initialiser does not name int
-  code_free_of : (id : MemberId) → is_initialiser id.name ≡ false → (m : Method) → IsOwnCode files id m
-      → is_int_desc id.desc ≡ false
-  code_free_of id plain m code =
-      let k = code.method in
-      let h = tabled.own code.class k code.tree code.own (ap is_initialiser code.name ∙ plain) code.is_code in
-      let same : k.desc ≡ (let n = h.method in n.desc) = ap (λ (x : Method). let i = x.id in i.desc) h.is in
-      let free = own_desc files h.code h.class h.method h.tree h.of_package (code_free files codes is.no_int h.code
-      h.listed) in
-      ap is_int_desc (sym code.desc ∙ same) ∙ free
-
-  member_is : (id : MemberId) → IsOwnNamed files id → is_int_desc id.desc ≡ false → IsMember files l tables id
-  member_is id o no_int =
+  -- a method of the package has types that a package may use, and what it takes is there
+  member_is : (id : MemberId) → IsOwnNamed files id → IsMemberFound files l id
+  member_is id o =
       let t = o.class in
       let k = o.method in
       let short = own_short o.number o.place t k o.is_class o.is_method in
       let parsed = (let r = read_of files read o.number t o.is_class in r.methods) o.place k o.is_method in
       let fine = method_kept list files codes settings is.checks o.number t o.is_class o.place k o.is_method in
-      let words = word_desc k.desc parsed.0 short parsed.1 parsed.2 fine.0 (ap is_int_desc o.desc ∙ no_int) in
       let kept = own_kept files list is.listed is.world o.number t o.is_class in
       let there = (kept.methods o.place k o.is_method).1 in
       record {
-        desc = subst IsWordDesc o.desc words;
+        desc = subst (IsUsable true) o.desc (record {
+          types = parsed.0;
+          short = short;
+          is_desc = parsed.1;
+          of_method = parsed.2;
+          supported = fine.0;
+        });
         known = subst (λ d. AllByRecursion (λ type. (kind : Shape (List ℕ)) → type ≡ Reference kind
             → IsThere w kind) (let types = types_of d in types.params)) o.desc (params_there w k.desc short
-            words.is_desc there);
-        is_called = λ m e. (let r = called_method files solid id m e in begun list files codes settings is spelt tables
-            tabled false id (called_plain files w id m e) m r.0 r.1);
-        is_sent = λ kind m made e. (let s = sent_to id kind m made e in begun list files codes settings is spelt tables
-            tabled true id (sent_plain files w (shape_name kind) id m e) m s.code s.on_object);
+            (parts_are k.desc parsed.0 short parsed.1) there);
+        is_called = λ m e. called_method files solid id m e;
+        is_sent = λ kind m made e. (let s = sent_to id kind m made e in (s.code, s.on_object));
         receives = λ kind m made e. (let s = sent_to id kind m made e in let code = s.code in let own = code.own in
             let open_name = solid.plain (let c = code.class in c.name) _ (class_by_name files list is.listed is.world
             own.number code.class own.is_class) in
-            subst (λ n. is_subtype w (shape_name kind) n ≡ true) (sym (declarer list files codes settings is spelt
-            tables tabled id m code)) (below_type w (shape_name kind) (let c = code.class in c.name) open_name
-            s.below));
+            subst (λ n. is_subtype w (shape_name kind) n ≡ true) (sym (ap (λ (n : Method). let i = n.id in i.class)
+            code.is)) (below_type w (shape_name kind) (let c = code.class in c.name) open_name s.below));
       }
 
-  -- no method with code has a descriptor that names int
-  int_is : (id : MemberId) → is_int_desc id.desc ≡ true → IsFound files l tables id
-  int_is id int = no_method
-      (none_where (entry_named files w id) (λ m e. true_not_false (is_int_desc id.desc) int
-      (code_free_of id (called_plain files w id m e) m (called_method files solid id m e).0)))
-      (λ kind made. none_where (sent_named files w (shape_name kind) id) (λ m e. true_not_false (is_int_desc id.desc)
-      int (code_free_of id (sent_plain files w (shape_name kind) id m e) m
-      (let s = sent_to id kind m made e in s.code))))
-
-  pub found_is : (id : MemberId) → IsFound files l tables id
-  found_is id = ⊎_elim (int_is id)
-      (λ no_int. ⊎_elim
-      (λ yes. a_member (member_is id (declared_one files id yes) no_int))
-      (λ no. no_method
+  pub script_is : (id : MemberId) → IsScriptFound files l id
+  script_is id = ⊎_elim
+      (λ yes. finds_member (member_is id (declared_one files id yes)))
+      (λ no. finds_none
       (none_where (entry_named files w id) (λ m e. declared_none files id no (called_own files solid id m e)))
       (λ kind made. none_where (sent_named files w (shape_name kind) id) (λ m e. declared_none files id no
       (sent_own files solid (shape_name kind) id m e))))
-      (true_or_false (list_any (λ t. declares id t) files.classes)))
-      (true_or_false (is_int_desc id.desc))
+      (true_or_false (list_any (λ t. declares id t) files.classes))

@@ -1,5 +1,5 @@
 -- What a package keeps that breaks no rule over sound export files.
-use Rattle.std.proofs.Common.{◌≡◌, ℕ, refl, Bool, false, List, inl}
+use Rattle.std.proofs.Common.{◌≡◌, ℕ, Bool, false, List}
 use Rattle.std.specs.Prelude.{Some}
 use Rattle.cjc_bytes.specs.declared.fault.MemberId.{MemberId}
 use Rattle.cjc_bytes.specs.declared.settings.Settings.{Settings}
@@ -11,17 +11,15 @@ use Rattle.cjc_world.specs.ClassFile.declared.tree.ClassTree.{ClassTree}
 use Rattle.cjc_components.specs.Bytecode.declared.insn.JOp.TheVariants as jop
 use Rattle.cjc_components.specs.Bytecode.declared.method_code.MethodCode.{MethodCode}
 use Rattle.cjc_shape_proof.specs.Whole.{Accepts, HoldsFor, IsWhole}
-use Rattle.cjc_shape_proof.proofs.FindsLaws.Calls.{interface_call, special_call, static_call, virtual_call}
-use Rattle.cjc_shape_proof.proofs.FindsLaws.Fields.{field_is}
-use Rattle.cjc_shape_proof.proofs.FindsLaws.Receivers.{receiver_of}
-use Rattle.cjc_shape_proof.proofs.FindsLaws.Scripts.{found_is}
+use Rattle.cjc_shape_proof.proofs.FindsLaws.Receivers.{receiver_of, root_abroad, root_of}
+use Rattle.cjc_shape_proof.proofs.FindsLaws.Short as short
 use Rattle.cjc_narrow_proof.specs.Laws.Unbroken.{AreSpelt, IsInsnOf}
 use Rattle.cjc_narrow_proof.proofs.LawsLaws.ClassNames.{each_name}
 use Rattle.cjc_narrow_proof.proofs.LawsLaws.Whole.{converted}
 use Rattle.cjc_narrow_proof.specs.Runs.Calls.{IsReceiverOn, IsStaticOn}
 use Rattle.cjc_narrow_proof.specs.Runs.Converted.{IsConverted, IsException, IsFirst, IsFound}
 use Rattle.cjc_narrow_proof.specs.Runs.Names.{AreNamed, IsFieldOf}
-use Rattle.cjc_narrow_proof.specs.Runs.Tables.{HasTables, Tables, look_ups}
+use Rattle.cjc_narrow_proof.specs.Runs.Tables.{HasTables, Tables, look_ups, narrow_codes}
 use Rattle.cjc_narrow_proof.specs.Script.Sorts.{Shape, shape_name}
 use Rattle.cjc_narrow_proof.specs.Selection.Relation.{IsMadeOf}
 use Rattle.cjc_check_proof.specs.WorldProof.Files.{IsClean}
@@ -31,7 +29,7 @@ use Rattle.cjc_narrow_proof.proofs.TablesLaws.Spelt.{class_read}
 use Rattle.cjc_classes.specs.Types.declared.cell.Cell.{Cell}
 use Rattle.cjc_classes.specs.Types.Flow.{Body}
 use Rattle.cjc_world.specs.declared.image.StaticImage.{StaticImage}
-use Rattle.cjc_world.specs.Classes.{Class, all_classes, class_named, imported}
+use Rattle.cjc_world.specs.Classes.{Class, all_classes, class_named}
 use Rattle.cjc_world.specs.Files.{Files}
 use Rattle.cjc_world.specs.Lookup.{object, receiver}
 use Rattle.cjc_world.specs.Subtype.{starts}
@@ -57,12 +55,7 @@ module _ (list : List ℕ) (files : Files) (codes : List MethodCode) (settings :
   is_solid = solid_of list files codes settings clean plain
 
   pub root_is : IsReceiver (all_classes files) object
-  root_is = let s = whole.sound in let r = s.root in record {
-    class = imported r.number r.class;
-    named = r.found;
-    no_interface = r.no_interface;
-    made = inl refl;
-  }
+  root_is = root_of files whole.sound
 
   pub exceptions_are : (fault : Fault) → IsException (all_classes files) (exception_class fault)
   exceptions_are fault = let h = exception_is list files (let u = whole.unbroken in u.world) whole.sound fault
@@ -71,41 +64,42 @@ module _ (list : List ℕ) (files : Files) (codes : List MethodCode) (settings :
   module _ (image : StaticImage) (near : List MemberId) where
     pub receivers_are : (kind : Shape (List ℕ)) → IsMadeOf (look_ups files image near tables) kind
         → IsReceiver (all_classes files) (receiver (shape_name kind))
-    receivers_are kind made = receiver_of files image near tables is_solid root_is kind made
+    receivers_are kind made = receiver_of files image (narrow_codes files near tables) is_solid root_is kind made
 
     pub static_is : (class : ClassTree) (id : MemberId) → IsInsnOf files codes class (jop.Call 0xB8 id)
         → IsStaticOn files tables id
-    static_is class id at = static_call list files codes settings whole.unbroken spelt whole.read is_solid root_is image
+    static_is class id at = short.static_is list files codes settings whole.unbroken spelt whole.read is_solid root_is image
         near tables whole.tabled class id at
 
     pub virtual_is : (b : Body) (stack : List Cell) (class : ClassTree) (id : MemberId)
         → IsInsnOf files codes class (jop.Call 0xB6 id) → Accepts files b 0xB6 id stack
         → IsReceiverOn files (look_ups files image near tables) tables class.name stack 0xB6 id
-    virtual_is b stack class id at accepts_one = virtual_call list files codes settings whole.unbroken spelt whole.read
-        is_solid root_is image near tables whole.tabled b stack class.name class id at accepts_one
+    virtual_is b stack class id at accepts_one = short.virtual_is list files codes settings whole.unbroken spelt
+        whole.read is_solid root_is image near tables whole.tabled b stack class.name class id at accepts_one
 
     pub interface_is : (b : Body) (stack : List Cell) (class : ClassTree) (id : MemberId)
         → IsInsnOf files codes class (jop.Call 0xB9 id) → Accepts files b 0xB9 id stack
         → IsReceiverOn files (look_ups files image near tables) tables class.name stack 0xB9 id
-    interface_is b stack class id at accepts_one = interface_call list files codes settings whole.unbroken spelt
+    interface_is b stack class id at accepts_one = short.interface_is list files codes settings whole.unbroken spelt
         whole.read is_solid root_is image near tables whole.tabled b stack class.name class id at accepts_one
 
     pub special_is : (b : Body) (stack : List Cell) (class : ClassTree) (id : MemberId) → b.class ≡ class.name
         → IsInsnOf files codes class (jop.Call 0xB7 id) → Accepts files b 0xB7 id stack
         → IsReceiverOn files (look_ups files image near tables) tables class.name stack 0xB7 id
-    special_is b stack class id is_holder at accepts_one = special_call list files codes settings whole.unbroken spelt
+    special_is b stack class id is_holder at accepts_one = short.special_is list files codes settings whole.unbroken spelt
         whole.read is_solid root_is image near tables whole.tabled b stack class id is_holder at accepts_one
 
     pub scripts_find : (id : MemberId) → IsFound files (look_ups files image near tables) tables id
-    scripts_find id = found_is list files codes settings whole.unbroken spelt whole.read is_solid root_is image near
+    scripts_find id = short.found_is list files codes settings whole.unbroken spelt whole.read is_solid root_is image near
         tables whole.tabled id
 
     pub fields_are : (class : ClassTree) (put : Bool) (id : MemberId) → IsInsnOf files codes class (jop.Field put id)
         → (cell : Cell) → HoldsFor files id.class cell → (m : Method) → (f : MemberId)
         × IsFieldOf files image near tables m id f cell
     unfolding root_is
-    fields_are class put id at cell accepts_one m = field_is list files codes settings whole.unbroken whole.read
-        is_solid root_is refl image near tables class put id at cell accepts_one m
+    fields_are class put id at cell accepts_one m = short.field_of list files codes settings whole.unbroken spelt
+        whole.read is_solid root_is image near tables whole.tabled (root_abroad files whole.sound) class put id at cell
+        accepts_one m
 
     pub converted_is : ((m : Method) → HasTables files tables m → AreNamed files image near tables m)
         → IsFirst (look_ups files image near tables) files image → IsConverted files image near tables

@@ -8,7 +8,7 @@ use Rattle.std.proofs.lemmas.Bool.{ltb-false}
 use Rattle.std.proofs.lemmas.Bool.Decides.{nat_tests}
 use Rattle.std.proofs.lemmas.List.{length-map}
 use Rattle.std.proofs.lemmas.Option.{slice_get-map, slice_get_cases, slice_get_within}
-use Rattle.cjc_bytes.specs.AccessFlags.{is_abstract, is_interface}
+use Rattle.cjc_bytes.specs.AccessFlags.{is_abstract, is_interface, is_static}
 use Rattle.cjc_bytes.proofs.Bools.{or_left}
 use Rattle.cjc_bytes.proofs.Gets.{in_front as at_front, get_behind, mapped_at}
 use Rattle.cjc_world.specs.ClassFile.declared.tree.ClassTree.{ClassTree}
@@ -19,7 +19,7 @@ use Rattle.cjc_components.specs.ExportFile.{method_entry, method_meant, methods_
 use Rattle.cjc_components.specs.Exports.{exported_classes}
 use Rattle.cjc_components.specs.Names.{member_token}
 use Rattle.cjc_components.specs.Package.{Package, has_applets, world}
-use Rattle.cjc_world.specs.ExportFile.Members.{not_special}
+use Rattle.cjc_world.specs.ExportFile.Members.{is_unbound, not_special}
 use Rattle.cjc_world.specs.ExportFile.Writable.{EachAfter, MethodStands}
 use Rattle.cjc_world.specs.ExportFile.declared.tree.ExportMethod.{ExportMethod}
 use Rattle.cjc_shape.proofs.ExportedOwn.{IsOwn, own_class}
@@ -250,6 +250,13 @@ module _ (list : ListTree) (files : List (List ℕ)) (judged : Judged) (p : Pack
     signed : signature_of member ≡ s
     read : IsMethodRead member
     plain : not_special member.name ≡ Some member.name
+    -- it is one that an interface declares, and no initialiser
+    class : Class
+    called : class_named w class.name ≡ Some class
+    kind : is_interface class.flags ≡ true
+    its_place : ℕ
+    declared_there : slice_get class.methods its_place ≡ Some member
+    start : is_initialiser member.name ≡ false
 
   of_own : (d : Class) → class_named w d.name ≡ Some d → is_interface d.flags ≡ true → (s : Signature) (f : Found)
       → is_initialiser s.name ≡ false → own_method false s.name s.desc d ≡ Some f → IsSuper s f
@@ -278,6 +285,12 @@ module _ (list : ListTree) (files : List (List ℕ)) (judged : Judged) (p : Pack
             signed = signed;
             read = known_one.0;
             plain = plain_name m.name (known_one.1 kind started) started;
+            class = d;
+            called = called;
+            kind = kind;
+            its_place = i;
+            declared_there = r.1;
+            start = started;
           })
 
   super_of : (s : Signature) (f : Found) → is_initialiser s.name ≡ false → method_of_interface w (let d = c
@@ -483,6 +496,46 @@ module _ (list : ListTree) (files : List (List ℕ)) (judged : Judged) (p : Pack
   many : length (A ++ S) ≡ length its_methods
   many = as_many (length its_methods) (A ++ S) all_differ (λ x h. let r = all_placed x h in let m = r.met
       in m.low) all_there
+
+  -- ---- where no method of an interface is static but its initialiser
+
+  module _ (bare : (d : Class) (k : ℕ) (m : Member) → class_named w d.name ≡ Some d → is_interface d.flags ≡ true
+      → slice_get d.methods k ≡ Some m → is_initialiser m.name ≡ false → is_static m.flags ≡ false) where
+    bound : (flags : ℕ) (name : List ℕ) → is_static flags ≡ false → not_special name ≡ Some name → is_unbound flags name
+        ≡ false
+    bound flags name e f = by (is_static flags) (is_constructor name) (is_initialiser name) e f
+      where
+        by : (s q i : Bool) → s ≡ false → (if q || i then None else Some name) ≡ Some name → (s || q) ≡ false
+        by false false i g h = refl
+        by false true i g h = cc
+        by true q i g h = cc
+
+    own_bound : (e : ExportMethod) → Has e A → is_unbound e.flags e.name ≡ false
+    own_bound e h =
+        let r = listed_in p c fields methods e h in
+        let start = started r.member r.listed in
+        let known_one = named_method list files judged p is (let u = t in u.name) c named r.member
+        (get-has r.member methods r.place r.there) in
+        let m = r.member in
+        ap (λ (x : ExportMethod). is_unbound x.flags x.name) (sym r.is)
+        ∙ bound m.flags m.name (bare c r.place m named interface r.there start) (plain_name m.name (known_one.1
+        interface start) start)
+
+    super_bound : (e : ExportMethod) → Has e S → is_unbound e.flags e.name ≡ false
+    super_bound e h =
+        let r = supers_in w c 0 its_methods its_row e h in
+        let s = super_at_token r.place r.signature r.found r.wanted r.there in
+        let both : Some s.member ≡ Some r.member = sym s.meant ∙ r.meant in
+        let one : s.member ≡ r.member = cc in
+        let m = s.member in
+        ap (λ (x : ExportMethod). is_unbound x.flags x.name) (sym r.is)
+        ∙ ap (λ (x : Member). is_unbound x.flags x.name) (sym one)
+        ∙ bound m.flags m.name (bare s.class s.its_place m s.called s.kind s.declared_there s.start) s.plain
+
+    -- no entry is static or a constructor
+    pub none_unbound : (e : ExportMethod) → Has e (let x = export_class p c in x.methods) → is_unbound e.flags e.name
+        ≡ false
+    none_unbound e h = ⊎_elim (λ a. own_bound e a) (λ b. super_bound e b) (has-either e A S (subst (Has e) listed h))
 
   pub interface_stands : MethodsStand p c
   interface_stands =

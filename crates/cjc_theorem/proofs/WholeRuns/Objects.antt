@@ -17,6 +17,7 @@ use Rattle.cjc_world.specs.ClassFile.Fits as fits
 use Rattle.cjc_world.specs.ClassFile.declared.tree.ClassTree.{ClassTree}
 use Rattle.cjc_world.specs.ClassFile.declared.tree.FieldTree.{FieldTree}
 use Rattle.cjc_components.specs.Bytecode.declared.method_code.MethodCode.{MethodCode}
+use Rattle.cjc_shape_proof.specs.Finds.{IsUsable}
 use Rattle.cjc_shape_proof.proofs.FindsLaws.Descs.{read_of}
 use Rattle.cjc_shape_proof.proofs.FindsLaws.Fields.{value_field, word_field}
 use Rattle.cjc_narrow_proof.specs.Runs.Names.{IsWordField}
@@ -70,29 +71,37 @@ of_objects class (m ∷ ms) h = by (is_static m.flags) (of_objects class ms (λ 
 
 module _ (list : List ℕ) (files : Files) (codes : List MethodCode) (settings : Settings) (unbroken : check_breaks list
     files codes settings ≡ []) (read : AreReadFiles files) where
-  -- 301 of a field of a class file, which is not int
-  pub own_field_word : (n k : ℕ) (t : ClassTree) (x : FieldTree) → slice_get files.classes n ≡ Some t
-      → slice_get t.fields k ≡ Some x → is_int_desc x.desc ≡ false → IsWordField x.desc
-  own_field_word n k t x is_class is_field no_int =
+  -- 301 of a field of a class file
+  pub own_field_usable : (n k : ℕ) (t : ClassTree) (x : FieldTree) → slice_get files.classes n ≡ Some t
+      → slice_get t.fields k ≡ Some x → IsUsable false x.desc
+  own_field_usable n k t x is_class is_field =
       let kept = field_kept list files codes settings unbroken n t is_class k x is_field in
       let bytes = read.classes n t is_class in
       let few = spelt_fits t bytes.0 bytes.1 bytes.2 in
       let one = all_at fits.FieldFits t.fields k x few.fields is_field in
       let short : length x.desc < 2 ^ 32 = (let s = one.desc in omega (arith, s)) in
       let parsed = (let r = read_of files read n t is_class in r.fields) k x is_field in
-      word_field x.desc parsed.0 short parsed.1 parsed.2 kept.0 no_int
+      record {
+        types = parsed.0;
+        short = short;
+        is_desc = parsed.1;
+        of_method = parsed.2;
+        supported = kept.0;
+      }
+
+  -- which is not int
+  pub own_field_word : (n k : ℕ) (t : ClassTree) (x : FieldTree) → slice_get files.classes n ≡ Some t
+      → slice_get t.fields k ≡ Some x → is_int_desc x.desc ≡ false → IsWordField x.desc
+  own_field_word n k t x is_class is_field no_int =
+      let d = own_field_usable n k t x is_class is_field in
+      word_field x.desc d.types d.short d.is_desc d.of_method d.supported no_int
 
   -- 301 of a field of a class file
   pub own_field_values : (n k : ℕ) (t : ClassTree) (x : FieldTree) → slice_get files.classes n ≡ Some t
       → slice_get t.fields k ≡ Some x → has_values (field_sort x.desc) ≡ true
   own_field_values n k t x is_class is_field =
-      let kept = field_kept list files codes settings unbroken n t is_class k x is_field in
-      let bytes = read.classes n t is_class in
-      let few = spelt_fits t bytes.0 bytes.1 bytes.2 in
-      let one = all_at fits.FieldFits t.fields k x few.fields is_field in
-      let short : length x.desc < 2 ^ 32 = (let s = one.desc in omega (arith, s)) in
-      let parsed = (let r = read_of files read n t is_class in r.fields) k x is_field in
-      value_field x.desc parsed.0 short parsed.1 parsed.2 kept.0
+      let d = own_field_usable n k t x is_class is_field in
+      value_field x.desc d.types d.short d.is_desc d.of_method d.supported
 
   module _ (solid : IsSolid files) where
     abbrev w : List Class

@@ -1,6 +1,6 @@
--- The static fields that code names: a cell of the package, or a constant.
+-- The static fields that code names: a cell of the package, or a constant, whichever of its methods are in int mode.
 use Rattle.std.proofs.Common.{◌≡◌, ℕ, zero, suc, ◌^◌, refl, sym, ap, subst, ◌∙◌, arith, Bool, true, false, List}
-use Rattle.std.proofs.Common.{[], ◌∷◌}
+use Rattle.std.proofs.Common.{[], ◌∷◌, ◌<◌, length}
 use Rattle.std.specs.Prelude.{not, ◌&&◌, ◌||◌, Option, Some, None, option_and_then, option_map, is_some, map, slice_get}
 use Rattle.std.specs.Prelude.{if◌then◌else◌, ℤ, codes}
 use Rattle.std.specs.Str.{bytes_eq}
@@ -29,10 +29,14 @@ use Rattle.cjc_world.specs.ExportFile.declared.tree.ExportField.{ExportField}
 use Rattle.cjc_world.specs.ExportFile.Members.{is_constant_type, may_be_constant}
 use Rattle.cjc_world.specs.ExportFile.Writable.{ClassFits, FieldFits, ValueFits}
 use Rattle.cjc_shape_proof.proofs.FindsLaws.Descs.{read_of}
-use Rattle.cjc_shape_proof.proofs.FindsLaws.Fields.{lists_has, tested, tested_field}
+use Rattle.cjc_shape_proof.proofs.FindsLaws.Fields.{lists_has, tested, tested_field, word_field}
+use Rattle.cjc_shape_proof.proofs.FindsLaws.Short.{kept_names}
+use Rattle.cjc_shape_proof.proofs.WrittenLaws.Insns.{op_fit, op_there}
+use Rattle.cjc_shape_proof.specs.Finds.{IsStaticFieldFound, IsUsable, finds_cell, finds_constant}
+use Rattle.cjc_shape_proof.specs.Written.Checked.{KeepsNames}
 use Rattle.cjc_narrow_proof.specs.Laws.Unbroken.{IsInsnOf, IsUnbroken}
-use Rattle.cjc_narrow_proof.proofs.LawsLaws.Instructions.{op_fit, op_there, static_there}
-use Rattle.cjc_narrow_proof.specs.Runs.Names.{IsNamed, IsWordField, a_constant, a_static}
+use Rattle.cjc_narrow_proof.proofs.LawsLaws.Instructions.{static_there}
+use Rattle.cjc_narrow_proof.specs.Runs.Names.{IsNamed, a_constant, a_static}
 use Rattle.cjc_narrow_proof.specs.Runs.Tables.{Tables}
 use Rattle.cjc_components.specs.Range.Span.{Holds, full}
 use Rattle.cjc_ncode.proofs.BytecodeEntries.{fit32}
@@ -47,13 +51,13 @@ use Rattle.cjc_token_proof.specs.Types.declared.cell.Cell.{Cell}
 use Rattle.cjc_token_proof.specs.Types.declared.cell.Cell.TheVariants.{Number}
 use Rattle.cjc_narrow_proof.proofs.SelectedLaws.IntFree.{op_free}
 use Rattle.cjc_token_proof.specs.Subset.Ints.{works_on_int}
-use Rattle.cjc_token_proof.specs.Subset.Types.{is_int_desc}
+use Rattle.cjc_token_proof.specs.Subset.Types.{is_int_desc, is_unsupported_desc, is_unsupported_name, names_unsupported}
 use Rattle.cjc_token_proof.specs.Types.Types.{no_parts, parts, parts_or_none, result_of}
 use Rattle.cjc_world.specs.Upwards.{Has, after, foremost}
 use Rattle.cjc_world.proofs.UpwardLaws.Lines.{field_found_above, has-back, has-front}
 use Rattle.cjc_vtable.proofs.Filed.{IsFiled, filed, get-has, has-get, in_class_file, in_export_file, of-imports}
 use Rattle.cjc_vtable.proofs.Read.{each-after}
-use Rattle.cjc_theorem.proofs.WholeRuns.Objects.{own_field_word}
+use Rattle.cjc_theorem.proofs.WholeRuns.Objects.{own_field_usable}
 use Rattle.cjc_world.specs.declared.found.Found.{Found}
 use Rattle.cjc_world.specs.declared.image.StaticImage.{StaticImage}
 use Rattle.cjc_world.specs.Classes.{Class, Member, all_classes, class_named, declared, field_of_class, field_of_export}
@@ -90,6 +94,33 @@ constant_number desc e = by (bytes_eq desc (codes "Z")) (bytes_eq desc (codes "B
     by false true s i f g h k e = at 66 kinds.Byte refl refl g
     by false false true i f g h k e = at 83 kinds.Short refl refl h
     by false false false true f g h k e = at 73 kinds.Int refl refl k
+    by false false false false f g h k e = absurd cc
+
+-- the type of a constant, where a package may use it
+constant_usable : (flags : ℕ) (desc : List ℕ) → may_be_constant flags desc ≡ true → is_unsupported_desc desc ≡ false
+    → IsUsable false desc
+constant_usable flags desc e supported = by (bytes_eq desc (codes "Z")) (bytes_eq desc (codes "B"))
+    (bytes_eq desc (codes "S")) (bytes_eq desc (codes "I")) refl refl refl refl (both_back _ (is_constant_type desc) e)
+  where
+    at : (b : ℕ) (kind : Kind) → base_kind b ≡ Some kind → bytes_eq desc (b ∷ []) ≡ true → IsUsable false desc
+    at b kind k same = record {
+      types = record { is_method = false; params = []; result = plain kind };
+      short = subst (λ v. length v < 2 ^ 32) (sym (bytes_true desc (b ∷ []) same)) (omega arith);
+      is_desc = ap desc_of (bytes_true desc (b ∷ []) same) ∙ desc_read (record {
+        is_method = false;
+        params = [];
+        result = plain kind;
+      }) (b ∷ []) (field (base k));
+      of_method = refl;
+      supported = supported;
+    }
+
+    by : (z b s i : Bool) → bytes_eq desc (codes "Z") ≡ z → bytes_eq desc (codes "B") ≡ b → bytes_eq desc (codes "S")
+        ≡ s → bytes_eq desc (codes "I") ≡ i → (z || b || s || i) ≡ true → IsUsable false desc
+    by true b s i f g h k e = at 90 kinds.Bool refl f
+    by false true s i f g h k e = at 66 kinds.Byte refl g
+    by false false true i f g h k e = at 83 kinds.Short refl h
+    by false false false true f g h k e = at 73 kinds.Int refl k
     by false false false false f g h k e = absurd cc
 
 constant_typed : (flags : ℕ) (desc : List ℕ) → may_be_constant flags desc ≡ true → result_of (parts desc).result
@@ -146,9 +177,8 @@ cells_told image (c ∷ cs) (suc k) t id e h =
 
 -- ---- of a package
 
-module _ (list : List ℕ) (files : Files) (codes : List MethodCode) (settings : Settings) (is : IsUnbroken list files
-    codes settings) (read : AreReadFiles files) (solid : IsSolid files)
-    (image : StaticImage) (near : List MemberId) (tables : Tables) where
+module _ (list : List ℕ) (files : Files) (codes : List MethodCode) (settings : Settings) (is : KeepsNames list files
+    codes settings) (read : AreReadFiles files) (solid : IsSolid files) (image : StaticImage) where
   abbrev w : List Class
   w = all_classes files
 
@@ -162,10 +192,11 @@ module _ (list : List ℕ) (files : Files) (codes : List MethodCode) (settings :
     static : is_static (let p = at in let m = p.member in m.flags) ≡ true
     read_only : (put && is_constant_found files (Some (member_at owner (let p = at in p.place)))) ≡ false
     imported_is : is_imported_variable files (Some (member_at owner (let p = at in p.place))) ≡ false
+    supported : is_unsupported_desc id.desc ≡ false
 
   known_static : (class : ClassTree) (put : Bool) (id : MemberId) → IsInsnOf files codes class (jop.Static put id)
       → IsKnown put id
-  unfolding names_unfit names_variable
+  unfolding names_unfit names_unsupported names_variable
   known_static class put id at =
       let ok = op_there list files codes settings is class (jop.Static put id) at in
       let there = static_there files class put id ok.0 ok.1 in
@@ -199,6 +230,8 @@ module _ (list : List ℕ) (files : Files) (codes : List MethodCode) (settings :
         imported_is = ap (λ g. is_imported_variable files (Some g)) (sym p.is)
             ∙ ap (is_imported_variable files) (sym found)
             ∙ (op_fit list files codes settings is class (jop.Static put id) at).1;
+        supported = or_right (is_unsupported_name id.class) (is_unsupported_desc id.desc)
+            (op_fit list files codes settings is class (jop.Static put id) at).0;
       }
 
   named_is : (put : Bool) (id : MemberId) (k : IsKnown put id) → (o : Option ℤ)
@@ -217,161 +250,180 @@ module _ (list : List ℕ) (files : Files) (codes : List MethodCode) (settings :
       (solid.numbered d.name d k.named) p.is_member)
       ∙ ap (λ o. Some (field_by o id (record { owner = d; flags = m.flags }))) constant
 
-  module _ (m : Method) (stack : List Cell) where
-    -- a constant, which putstatic does not name
-    constant_is : (put : Bool) (id : MemberId) (k : IsKnown put id) (z : ℤ)
-        → constant_at files (member_at k.owner (let p = k.at in p.place)) ≡ Some z
-        → is_constant_found files (Some (member_at k.owner (let p = k.at in p.place))) ≡ true
-        → result_of (parts id.desc).result ≡ Number ∷ [] → Holds full z
-        → IsNamed files image near tables m stack (jop.Static put id)
-    constant_is false id k z constant is_so number held =
-        a_constant z number held (named_is false id k (Some z) constant)
-    constant_is true id k z constant is_so number held = (let no : true ≡ false = sym is_so ∙ k.read_only in absurd cc)
+  -- a constant, which putstatic does not name
+  constant_is : (put : Bool) (id : MemberId) (k : IsKnown put id) (z : ℤ)
+      → constant_at files (member_at k.owner (let p = k.at in p.place)) ≡ Some z
+      → is_constant_found files (Some (member_at k.owner (let p = k.at in p.place))) ≡ true
+      → IsUsable false id.desc → result_of (parts id.desc).result ≡ Number ∷ [] → Holds full z
+      → IsStaticFieldFound files image put id
+  constant_is false id k z constant is_so usable number held =
+      finds_constant z refl usable number held (named_is false id k (Some z) constant)
+  constant_is true id k z constant is_so usable number held = (let no : true ≡ false = sym is_so ∙ k.read_only in absurd cc)
 
-    -- any other is a cell
-    cell_is : (put : Bool) (id : MemberId) (k : IsKnown put id) (n : ℕ) (t : ClassTree) (x : FieldTree)
-        → slice_get files.classes n ≡ Some t → slice_get t.fields (let p = k.at in p.place) ≡ Some x
-        → k.owner ≡ declared n t → (let p = k.at in p.member) ≡ field_of_class x
-        → constant_at files (member_at k.owner (let p = k.at in p.place)) ≡ None → (may_be_constant x.flags x.desc
-        && is_some x.constant) ≡ false → is_int_desc id.desc ≡ false
-        → IsNamed files image near tables m stack (jop.Static put id)
-    cell_is put id k n t x is_class is_field owner member constant open_one no_int =
-        let d = k.owner in
-        let p = k.at in
-        let q = p.member in
-        let static : is_static x.flags ≡ true = sym (ap (λ (v : Member). is_static v.flags) member) ∙ k.static in
-        let name : x.name ≡ id.name = sym (ap (λ (v : Member). v.name) member) ∙ p.has_name in
-        let desc : x.desc ≡ id.desc = sym (ap (λ (v : Member). v.desc) member) ∙ p.has_desc in
-        let word = own_field_word list files codes settings is.checks read n p.place t x is_class is_field
-        (ap is_int_desc desc ∙ no_int) in
-        let cell : is_cell x ≡ true = ap (λ b. b && not (may_be_constant x.flags x.desc && is_some x.constant)) static
-        ∙ ap not open_one in
-        let told = cells_told image files.classes n t (record { class = t.name; name = x.name; desc = x.desc }) is_class
-        (cell_told image t.name t.fields p.place x is_field cell) in
-        let same : record { class = t.name; name = x.name; desc = x.desc } ≡ of_class d.name id =
-        ap (λ y. record { class = t.name; name = y; desc = x.desc }) name
-        ∙ ap (λ y. record { class = t.name; name = id.name; desc = y }) desc
-        ∙ ap (λ (v : Class). record { class = v.name; name = id.name; desc = id.desc }) (sym owner) in
-        a_static (of_class d.name id) (record {
-          desc = subst IsWordField desc word;
-          found = named_is put id k None constant ∙ ap (λ b. Some (if b then Static (of_class d.name id)
-              else Instance (of_class d.name id))) k.static;
-          has = lists_has (of_class d.name id) (map (λ cell. cell.field) (cells image files.classes))
-              (subst (λ g. Has g (map (λ cell. cell.field) (cells image files.classes))) same told);
-        })
+  -- any other is a cell
+  cell_is : (put : Bool) (id : MemberId) (k : IsKnown put id) (n : ℕ) (t : ClassTree) (x : FieldTree)
+      → slice_get files.classes n ≡ Some t → slice_get t.fields (let p = k.at in p.place) ≡ Some x
+      → k.owner ≡ declared n t → (let p = k.at in p.member) ≡ field_of_class x
+      → constant_at files (member_at k.owner (let p = k.at in p.place)) ≡ None → (may_be_constant x.flags x.desc
+      && is_some x.constant) ≡ false
+      → IsStaticFieldFound files image put id
+  cell_is put id k n t x is_class is_field owner member constant open_one =
+      let d = k.owner in
+      let p = k.at in
+      let q = p.member in
+      let static : is_static x.flags ≡ true = sym (ap (λ (v : Member). is_static v.flags) member) ∙ k.static in
+      let name : x.name ≡ id.name = sym (ap (λ (v : Member). v.name) member) ∙ p.has_name in
+      let desc : x.desc ≡ id.desc = sym (ap (λ (v : Member). v.desc) member) ∙ p.has_desc in
+      let usable = own_field_usable list files codes settings is.checks read n p.place t x is_class is_field in
+      let cell : is_cell x ≡ true = ap (λ b. b && not (may_be_constant x.flags x.desc && is_some x.constant)) static
+      ∙ ap not open_one in
+      let told = cells_told image files.classes n t (record { class = t.name; name = x.name; desc = x.desc }) is_class
+      (cell_told image t.name t.fields p.place x is_field cell) in
+      let same : record { class = t.name; name = x.name; desc = x.desc } ≡ of_class d.name id =
+      ap (λ y. record { class = t.name; name = y; desc = x.desc }) name
+      ∙ ap (λ y. record { class = t.name; name = id.name; desc = y }) desc
+      ∙ ap (λ (v : Class). record { class = v.name; name = id.name; desc = id.desc }) (sym owner) in
+      finds_cell (of_class d.name id) (subst (IsUsable false) desc usable) (named_is put id k None constant
+      ∙ ap (λ b. Some (if b then Static (of_class d.name id) else Instance (of_class d.name id))) k.static)
+      (lists_has (of_class d.name id) (map (λ cell. cell.field) (cells image files.classes))
+      (subst (λ g. Has g (map (λ cell. cell.field) (cells image files.classes))) same told))
 
-    of_own : (put : Bool) (id : MemberId) (k : IsKnown put id) (n : ℕ) (t : ClassTree) → slice_get files.classes n
-        ≡ Some t → k.owner ≡ declared n t → is_int_desc id.desc ≡ false
-        → IsNamed files image near tables m stack (jop.Static put id)
-    unfolding subset.is_constant
-    of_own put id k n t is_class owner no_int = by (may_be_constant (let y = x0.0 in y.flags) (let y = x0.0 in y.desc))
-        (let y = x0.0 in y.constant) refl refl at_is tested_is
-      where
-        pl : ℕ
-        pl = let p = k.at in p.place
+  usable_by : (put : Bool) (id : MemberId) → IsKnown put id → (flags : ℕ) (desc : List ℕ) → desc ≡ id.desc
+      → may_be_constant flags desc ≡ true → IsUsable false id.desc
+  usable_by put id k flags desc is e = subst (IsUsable false) is (constant_usable flags desc e
+      (ap is_unsupported_desc is ∙ k.supported))
 
-        x0 : (y : FieldTree) × (slice_get t.fields pl ≡ Some y) × ((let p = k.at in p.member) ≡ field_of_class y)
-        x0 = let p = k.at in mapped_at field_of_class t.fields p.place p.member
-            (ap (λ (v : Class). slice_get v.fields p.place) (sym owner) ∙ p.is_member)
+  of_own : (put : Bool) (id : MemberId) (k : IsKnown put id) (n : ℕ) (t : ClassTree) → slice_get files.classes n
+      ≡ Some t → k.owner ≡ declared n t
+      → IsStaticFieldFound files image put id
+  unfolding subset.is_constant
+  of_own put id k n t is_class owner = by (may_be_constant (let y = x0.0 in y.flags) (let y = x0.0 in y.desc))
+      (let y = x0.0 in y.constant) refl refl at_is tested_is
+    where
+      pl : ℕ
+      pl = let p = k.at in p.place
 
-        at_is : constant_at files (member_at k.owner pl) ≡ (let y = x0.0 in if may_be_constant y.flags y.desc
-            then y.constant else None)
-        at_is = ap (λ v. constant_at files (member_at v pl)) owner ∙ ap (option_and_then (constant_in pl)) is_class
-            ∙ ap (option_and_then (λ (f : FieldTree). if may_be_constant f.flags f.desc then f.constant else None)) x0.1
+      x0 : (y : FieldTree) × (slice_get t.fields pl ≡ Some y) × ((let p = k.at in p.member) ≡ field_of_class y)
+      x0 = let p = k.at in mapped_at field_of_class t.fields p.place p.member
+          (ap (λ (v : Class). slice_get v.fields p.place) (sym owner) ∙ p.is_member)
 
-        tested_is : subset.is_constant files (member_at k.owner pl) ≡ (let y = x0.0 in may_be_constant y.flags y.desc
-            && is_some y.constant)
-        tested_is = ap (λ v. subset.is_constant files (member_at v pl)) owner
-            ∙ ap (λ o. is_declared_constant (declared_field o pl)) is_class ∙ ap is_declared_constant x0.1
+      at_is : constant_at files (member_at k.owner pl) ≡ (let y = x0.0 in if may_be_constant y.flags y.desc
+          then y.constant else None)
+      at_is = ap (λ v. constant_at files (member_at v pl)) owner ∙ ap (option_and_then (constant_in pl)) is_class
+          ∙ ap (option_and_then (λ (f : FieldTree). if may_be_constant f.flags f.desc then f.constant else None)) x0.1
 
-        by : (b : Bool) (o : Option ℤ) → (let y = x0.0 in may_be_constant y.flags y.desc) ≡ b
-            → (let y = x0.0 in y.constant) ≡ o → constant_at files (member_at k.owner pl) ≡ (if b then o else None)
-            → subset.is_constant files (member_at k.owner pl) ≡ (b && is_some o)
-            → IsNamed files image near tables m stack (jop.Static put id)
-        by true (Some z) f g at is_so =
-            let y = x0.0 in
-            let desc : y.desc ≡ id.desc = sym (ap (λ (v : Member). v.desc) x0.2) ∙ (let p = k.at in p.has_desc) in
-            constant_is put id k z at is_so (ap (λ v. result_of (parts v).result) (sym desc)
-            ∙ constant_typed y.flags y.desc f) ((let r = read_of files read n t is_class in r.constants) pl y z x0.1
-            g)
-        by true None f g at is_so = cell_is put id k n t x0.0 is_class x0.1 owner x0.2 at (ap (λ b. b
-            && is_some (let y = x0.0 in y.constant)) f ∙ ap is_some g) no_int
-        by false o f g at is_so = cell_is put id k n t x0.0 is_class x0.1 owner x0.2 at (ap (λ b. b
-            && is_some (let y = x0.0 in y.constant)) f) no_int
+      tested_is : subset.is_constant files (member_at k.owner pl) ≡ (let y = x0.0 in may_be_constant y.flags y.desc
+          && is_some y.constant)
+      tested_is = ap (λ v. subset.is_constant files (member_at v pl)) owner
+          ∙ ap (λ o. is_declared_constant (declared_field o pl)) is_class ∙ ap is_declared_constant x0.1
 
-    of_export : (put : Bool) (id : MemberId) (k : IsKnown put id) (n : ℕ) (t : ExportClass)
-        → slice_get (imports files.exports) n ≡ Some t → k.owner ≡ imported n t
-        → IsNamed files image near tables m stack (jop.Static put id)
-    unfolding subset.is_constant
-    of_export put id k n t is_class owner = by (may_be_constant (let y = x0.0 in y.flags) (let y = x0.0 in y.desc))
-        (let y = x0.0 in y.constant) refl refl
-      where
-        pl : ℕ
-        pl = let p = k.at in p.place
+      by : (b : Bool) (o : Option ℤ) → (let y = x0.0 in may_be_constant y.flags y.desc) ≡ b
+          → (let y = x0.0 in y.constant) ≡ o → constant_at files (member_at k.owner pl) ≡ (if b then o else None)
+          → subset.is_constant files (member_at k.owner pl) ≡ (b && is_some o)
+          → IsStaticFieldFound files image put id
+      by true (Some z) f g at is_so =
+          let y = x0.0 in
+          let desc : y.desc ≡ id.desc = sym (ap (λ (v : Member). v.desc) x0.2) ∙ (let p = k.at in p.has_desc) in
+          constant_is put id k z at is_so (usable_by put id k y.flags y.desc desc f) (ap (λ v. result_of (parts v).result) (sym desc)
+          ∙ constant_typed y.flags y.desc f) ((let r = read_of files read n t is_class in r.constants) pl y z x0.1
+          g)
+      by true None f g at is_so = cell_is put id k n t x0.0 is_class x0.1 owner x0.2 at (ap (λ b. b
+          && is_some (let y = x0.0 in y.constant)) f ∙ ap is_some g)
+      by false o f g at is_so = cell_is put id k n t x0.0 is_class x0.1 owner x0.2 at (ap (λ b. b
+          && is_some (let y = x0.0 in y.constant)) f)
 
-        x0 : (y : ExportField) × (slice_get t.fields pl ≡ Some y) × ((let p = k.at in p.member) ≡ field_of_export y)
-        x0 = let p = k.at in mapped_at field_of_export t.fields p.place p.member
-            (ap (λ (v : Class). slice_get v.fields p.place) (sym owner) ∙ p.is_member)
+  of_export : (put : Bool) (id : MemberId) (k : IsKnown put id) (n : ℕ) (t : ExportClass)
+      → slice_get (imports files.exports) n ≡ Some t → k.owner ≡ imported n t
+      → IsStaticFieldFound files image put id
+  unfolding subset.is_constant
+  of_export put id k n t is_class owner = by (may_be_constant (let y = x0.0 in y.flags) (let y = x0.0 in y.desc))
+      (let y = x0.0 in y.constant) refl refl
+    where
+      pl : ℕ
+      pl = let p = k.at in p.place
 
-        tested_at : subset.is_constant files (member_at k.owner pl) ≡ (let y = x0.0 in may_be_constant y.flags y.desc
-            && is_some y.constant)
-        tested_at = ap (λ v. subset.is_constant files (member_at v pl)) owner
-            ∙ ap (λ o. is_imported_constant (imported_field o pl)) is_class ∙ ap is_imported_constant x0.1
+      x0 : (y : ExportField) × (slice_get t.fields pl ≡ Some y) × ((let p = k.at in p.member) ≡ field_of_export y)
+      x0 = let p = k.at in mapped_at field_of_export t.fields p.place p.member
+          (ap (λ (v : Class). slice_get v.fields p.place) (sym owner) ∙ p.is_member)
 
-        at : constant_at files (member_at k.owner pl) ≡ (let y = x0.0 in if may_be_constant y.flags y.desc
-            then y.constant else None)
-        at = ap (λ v. constant_at files (member_at v pl)) owner
-            ∙ ap (λ cs. option_and_then (exported_constant pl) (slice_get cs n)) (sym (imports_flat files.exports))
-            ∙ ap (option_and_then (exported_constant pl)) is_class
-            ∙ ap (option_and_then (λ (f : ExportField). if may_be_constant f.flags f.desc then f.constant else None))
-            x0.1
+      tested_at : subset.is_constant files (member_at k.owner pl) ≡ (let y = x0.0 in may_be_constant y.flags y.desc
+          && is_some y.constant)
+      tested_at = ap (λ v. subset.is_constant files (member_at v pl)) owner
+          ∙ ap (λ o. is_imported_constant (imported_field o pl)) is_class ∙ ap is_imported_constant x0.1
 
-        -- 310
-        constant : (let y = x0.0 in may_be_constant y.flags y.desc && is_some y.constant) ≡ true
-        constant = sym tested_at ∙ not_so (subset.is_constant files (member_at k.owner pl))
-            (ap (λ (v : Class). v.is_imported && not (subset.is_constant files (member_at k.owner pl))) (sym owner)
-            ∙ k.imported_is)
-          where
-            not_so : (b : Bool) → (true && not b) ≡ false → b ≡ true
-            not_so true e = refl
-            not_so false e = absurd cc
+      at : constant_at files (member_at k.owner pl) ≡ (let y = x0.0 in if may_be_constant y.flags y.desc
+          then y.constant else None)
+      at = ap (λ v. constant_at files (member_at v pl)) owner
+          ∙ ap (λ cs. option_and_then (exported_constant pl) (slice_get cs n)) (sym (imports_flat files.exports))
+          ∙ ap (option_and_then (exported_constant pl)) is_class
+          ∙ ap (option_and_then (λ (f : ExportField). if may_be_constant f.flags f.desc then f.constant else None))
+          x0.1
 
-        value_of : (o : Option ℤ) (z : ℤ) → o ≡ Some z → ValueFits x0.0 o → Holds full z
-        value_of None z e h = absurd cc
-        value_of (Some v) z e h = let same : v ≡ z = cc in subst (Holds full) same (fit32 v h.0)
+      -- 310
+      constant : (let y = x0.0 in may_be_constant y.flags y.desc && is_some y.constant) ≡ true
+      constant = sym tested_at ∙ not_so (subset.is_constant files (member_at k.owner pl))
+          (ap (λ (v : Class). v.is_imported && not (subset.is_constant files (member_at k.owner pl))) (sym owner)
+          ∙ k.imported_is)
+        where
+          not_so : (b : Bool) → (true && not b) ≡ false → b ≡ true
+          not_so true e = refl
+          not_so false e = absurd cc
 
-        fits : ValueFits x0.0 (let y = x0.0 in y.constant)
-        fits =
-            let tree = of-imports t files.exports (get-has t (imports files.exports) n is_class) in
-            let place = has-get tree.0 files.exports tree.1 in
-            let writable = read.exports place.0 tree.0 place.1 in
-            let class = each-after ClassFits [] (let u = tree.0 in u.classes) t writable.classes tree.2 in
-            let fit = class.1 in
-            let one = each-after FieldFits [] t.fields x0.0 fit.fields (get-has x0.0 t.fields pl x0.1) in
-            (let h = one.1 in h.value)
+      value_of : (o : Option ℤ) (z : ℤ) → o ≡ Some z → ValueFits x0.0 o → Holds full z
+      value_of None z e h = absurd cc
+      value_of (Some v) z e h = let same : v ≡ z = cc in subst (Holds full) same (fit32 v h.0)
 
-        by : (b : Bool) (o : Option ℤ) → (let y = x0.0 in may_be_constant y.flags y.desc) ≡ b
-            → (let y = x0.0 in y.constant) ≡ o → IsNamed files image near tables m stack (jop.Static put id)
-        by true (Some z) f g =
-            let y = x0.0 in
-            let desc : y.desc ≡ id.desc = sym (ap (λ (v : Member). v.desc) x0.2) ∙ (let p = k.at in p.has_desc) in
-            constant_is put id k z (at ∙ ap (λ b. if b then y.constant else None) f ∙ g) (tested_at
-            ∙ constant) (ap (λ v. result_of (parts v).result) (sym desc) ∙ constant_typed y.flags y.desc f)
-            (value_of y.constant z g fits)
-        by true None f g = (let no : false ≡ true = sym (ap (λ b. b && is_some (let y = x0.0 in y.constant)) f
-            ∙ ap is_some g) ∙ constant in absurd cc)
-        by false o f g = (let no : false ≡ true = sym (ap (λ b. b && is_some (let y = x0.0 in y.constant)) f) ∙ constant
-            in absurd cc)
+      fits : ValueFits x0.0 (let y = x0.0 in y.constant)
+      fits =
+          let tree = of-imports t files.exports (get-has t (imports files.exports) n is_class) in
+          let place = has-get tree.0 files.exports tree.1 in
+          let writable = read.exports place.0 tree.0 place.1 in
+          let class = each-after ClassFits [] (let u = tree.0 in u.classes) t writable.classes tree.2 in
+          let fit = class.1 in
+          let one = each-after FieldFits [] t.fields x0.0 fit.fields (get-has x0.0 t.fields pl x0.1) in
+          (let h = one.1 in h.value)
 
-    pub static_is : (class : ClassTree) (put : Bool) (id : MemberId) → IsInsnOf files codes class (jop.Static put id)
-        → IsNamed files image near tables m stack (jop.Static put id)
-    unfolding works_on_int
-    static_is class put id at =
-        let k = known_static class put id at in
-        by put id k k.owner refl (op_free files codes is.no_int class (jop.Static put id) at)
-        (filed files (let d = k.owner in d.name) k.owner k.named)
-      where
-        by : (put : Bool) (id : MemberId) (k : IsKnown put id) (d : Class) → k.owner ≡ d → is_int_desc id.desc ≡ false
-            → IsFiled files d → IsNamed files image near tables m stack (jop.Static put id)
-        by put id k _ same no_int (in_class_file n t at) = of_own put id k n t at same no_int
-        by put id k _ same no_int (in_export_file n t at) = of_export put id k n t at same
+      by : (b : Bool) (o : Option ℤ) → (let y = x0.0 in may_be_constant y.flags y.desc) ≡ b
+          → (let y = x0.0 in y.constant) ≡ o → IsStaticFieldFound files image put id
+      by true (Some z) f g =
+          let y = x0.0 in
+          let desc : y.desc ≡ id.desc = sym (ap (λ (v : Member). v.desc) x0.2) ∙ (let p = k.at in p.has_desc) in
+          constant_is put id k z (at ∙ ap (λ b. if b then y.constant else None) f ∙ g) (tested_at
+          ∙ constant) (usable_by put id k y.flags y.desc desc f) (ap (λ v. result_of (parts v).result) (sym desc) ∙ constant_typed y.flags y.desc f)
+          (value_of y.constant z g fits)
+      by true None f g = (let no : false ≡ true = sym (ap (λ b. b && is_some (let y = x0.0 in y.constant)) f
+          ∙ ap is_some g) ∙ constant in absurd cc)
+      by false o f g = (let no : false ≡ true = sym (ap (λ b. b && is_some (let y = x0.0 in y.constant)) f) ∙ constant
+          in absurd cc)
+
+  pub static_found : (class : ClassTree) (put : Bool) (id : MemberId) → IsInsnOf files codes class (jop.Static put id)
+      → IsStaticFieldFound files image put id
+  static_found class put id at =
+      let k = known_static class put id at in
+      by put id k k.owner refl (filed files (let d = k.owner in d.name) k.owner k.named)
+    where
+      by : (put : Bool) (id : MemberId) (k : IsKnown put id) (d : Class) → k.owner ≡ d → IsFiled files d
+          → IsStaticFieldFound files image put id
+      by put id k _ same (in_class_file n t at) = of_own put id k n t at same
+      by put id k _ same (in_export_file n t at) = of_export put id k n t at same
+
+-- ---- where no method works on int
+
+module _ (list : List ℕ) (files : Files) (codes : List MethodCode) (settings : Settings) (is : IsUnbroken list files
+    codes settings) (read : AreReadFiles files) (solid : IsSolid files)
+    (image : StaticImage) (near : List MemberId) (tables : Tables) (m : Method) (stack : List Cell) where
+  pub static_is : (class : ClassTree) (put : Bool) (id : MemberId) → IsInsnOf files codes class (jop.Static put id)
+      → IsNamed files image near tables m stack (jop.Static put id)
+  unfolding works_on_int
+  static_is class put id at = by put (op_free files codes is.no_int class (jop.Static put id) at)
+      (static_found list files codes settings (kept_names is) read solid image class put id at)
+    where
+      by : (put : Bool) → is_int_desc id.desc ≡ false → IsStaticFieldFound files image put id
+          → IsNamed files image near tables m stack (jop.Static put id)
+      by false no_int (finds_constant z reads usable number held found) = a_constant z number held found
+      by true no_int (finds_constant z reads usable number held found) = absurd cc
+      by put no_int (finds_cell target d found has) = a_static target (record {
+        desc = word_field id.desc d.types d.short d.is_desc d.of_method d.supported no_int;
+        found = found;
+        has = has;
+      })

@@ -17,7 +17,7 @@ use Rattle.cjc_components.specs.Class.{is_shareable}
 use Rattle.cjc_components.specs.Descriptor.{as_added, method_in}
 use Rattle.cjc_components.specs.ExportFile.{added_from, export_class, inherited_from, is_listed, method_entry}
 use Rattle.cjc_components.specs.ExportFile.{methods_from, supers_from}
-use Rattle.cjc_components.specs.Exports.{exported_classes}
+use Rattle.cjc_components.specs.Exports.{exported_classes, open_methods}
 use Rattle.cjc_components.specs.Names.{member_token}
 use Rattle.cjc_components.specs.Package.{Package, has_applets, world}
 use Rattle.cjc_world.specs.ExportFile.Members.{is_unbound, same_bool}
@@ -43,7 +43,7 @@ use Rattle.cjc_world.specs.Supertypes.{End, Known, ends, supertypes, known_here}
 use Rattle.cjc_world.specs.Lookup.{member_at}
 use Rattle.cjc_world.specs.Rules.{is_twice}
 use Rattle.cjc_world.specs.declared.found.Found.{Found}
-use Rattle.cjc_shape_proof.proofs.WrittenLaws.FittingLaws.Exported.{bound_few}
+use Rattle.cjc_shape_proof.proofs.WrittenLaws.FittingLaws.Exported.{bound_few, open_at}
 use Rattle.cjc_shape_proof.proofs.WrittenLaws.FittingLaws.Limited.{acyclic, few_imports, are_supertypes, no_open}
 use Rattle.cjc_shape_proof.proofs.WrittenLaws.FittingLaws.Limited.{tokens, unbroken, writable}
 use Rattle.cjc_shape_proof.proofs.WrittenLaws.FittingLaws.Meant.{IsMethodRead, added_method, class_method, line_meant}
@@ -58,6 +58,7 @@ use Rattle.cjc_shape_proof.proofs.WrittenLaws.FittingLaws.Standing.{added_alone,
 use Rattle.cjc_shape_proof.proofs.WrittenLaws.FittingLaws.Standing.{clashes, inherited_alone, inherited_in}
 use Rattle.cjc_shape_proof.proofs.WrittenLaws.FittingLaws.Standing.{listed_alone, listed_in, stand}
 use Rattle.cjc_shape_proof.proofs.WrittenLaws.FittingLaws.Tables.{few_slots}
+use Rattle.cjc_shape_proof.specs.Written.Entries.{IsOwnUnbound}
 use Rattle.cjc_shape_proof.specs.Written.LaidOut.{ExportedInterfacesStand, ExportedMethodsStand, IsLaidOut}
 use Rattle.cjc_shape_proof.specs.Written.LaidOut.{MethodsStand}
 use Rattle.cjc_shape_proof.proofs.WritingLaws.Flags.{interface_kept, one_access}
@@ -490,6 +491,46 @@ module _ (list : ListTree) (files : List (List ℕ)) (judged : Judged) (p : Pack
 
   listed : (let e = export_class p c in e.methods) ≡ A ++ (B ++ C)
   listed = ap (λ b. A ++ (B ++ (if b then supers_from w c 0 (interface_methods w c) (interface_row w c) else C))) plain
+
+  -- ---- static methods and constructors
+
+  own_unbound : (e : ExportMethod) → Has e A → is_unbound e.flags e.name ≡ true → IsOwnUnbound p c e
+  own_unbound e h u = by (kind r.place r.member r.there r.listed)
+    where
+      r : IsListedAt p c fields methods e
+      r = listed_in p c fields methods e h
+
+      its : tok (fields + r.place) ≡ e.token
+      its = ap (λ (x : ExportMethod). x.token) r.is
+
+      by : (is_open_bound r.member ≡ true) ⊎ (is_shown r.member ≡ true) → IsOwnUnbound p c e
+      by (inl a) = record {
+        place = r.place;
+        member = r.member;
+        there = r.there;
+        opened = a;
+        is = ap (λ k. method_entry k r.member) (sym its) ∙ r.is;
+        its_token = its;
+        exported = ap (slice_get (open_methods c fields methods)) (sym its ∙ bound_is r.place r.member r.there a)
+            ∙ open_at c fields methods r.place r.member r.there a;
+      }
+      by (inr a) = absurd (let z : true ≡ false = sym u ∙ sym (ap (λ (x : ExportMethod). is_unbound x.flags x.name)
+          r.is) ∙ shown_unbound r.member a in cc)
+
+  -- what it got or inherits is neither
+  pub unbound_own : (e : ExportMethod) → Has e (let x = export_class p c in x.methods) → is_unbound e.flags e.name
+      ≡ true → IsOwnUnbound p c e
+  unbound_own e h u = ⊎_elim
+      (λ a. own_unbound e a u)
+      (λ b. ⊎_elim (λ d. bound (given_bound d)) (λ d. bound (let z = others e d in z.bound)) (has-either e B C b))
+      (has-either e A (B ++ C) (subst (Has e) listed h))
+    where
+      bound : is_unbound e.flags e.name ≡ false → IsOwnUnbound p c e
+      bound f = absurd (let z : true ≡ false = sym u ∙ f in cc)
+
+      given_bound : Has e B → is_unbound e.flags e.name ≡ false
+      given_bound d = let r = added_in p c (fields + length methods) given e d
+          in ap (λ (x : ExportMethod). is_unbound x.flags x.name) (sym r.is) ∙ (given_read r.place r.member r.there).1
 
   pub class_stands : MethodsStand p c
   class_stands =

@@ -1,7 +1,7 @@
 -- Where 401 and 413 are not broken, few classes are exported, each with few static fields and methods; and interfaces
 -- have neither static methods nor constructors.
-use Rattle.std.proofs.Common.{◌≡◌, ℕ, suc, ◌+◌, ◌≤◌, refl, sym, ap, ◌∙◌, arith, Bool, true, false, not, List, [], ◌∷◌}
-use Rattle.std.proofs.Common.{◌++◌, length, map, Some}
+use Rattle.std.proofs.Common.{◌≡◌, ℕ, zero, suc, ◌+◌, ◌≤◌, refl, sym, ap, ◌∙◌, arith, Bool, true, false, not, List, []}
+use Rattle.std.proofs.Common.{◌∷◌, ◌++◌, length, map, take, Some}
 use Rattle.std.specs.Prelude.{◌&&◌, ◌||◌, cond, count_by, filter, is_some, nat_lt, slice_get, if◌then◌else◌}
 use Rattle.std.proofs.lemmas.Bool.{ltb-false}
 use Rattle.std.proofs.lemmas.List.Sums.{length-filter, sum_by-cons}
@@ -135,6 +135,31 @@ open_counted c i (m ∷ ms) = by (is_open_bound m) (open_counted c (i + 1) ms)
         ≡ cond b 1 0 + count_by is_open_bound ms
     by true e = let z : suc (length (open_methods c (i + 1) ms)) ≡ 1 + count_by is_open_bound ms = omega (arith, e) in z
     by false e = let z : length (open_methods c (i + 1) ms) ≡ 0 + count_by is_open_bound ms = omega (arith, e) in z
+
+-- such a method stands at the place that its token counts
+pub open_at : (c : Class) (i : ℕ) (ms : List Member) (k : ℕ) (m : Member) → slice_get ms k ≡ Some m → is_open_bound m
+    ≡ true → slice_get (open_methods c i ms) (count_by is_open_bound (take k ms)) ≡ Some (member_at c (i + k))
+open_at c i [] k m e o = cc
+open_at c i (x ∷ ms) zero m e o =
+    let is : x ≡ m = cc in
+    let z : i ≡ i + 0 = omega arith in
+    ap (λ b. slice_get ((if b then member_at c i ∷ [] else []) ++ open_methods c (i + 1) ms) 0) (ap is_open_bound is
+    ∙ o)
+    ∙ ap (λ j. Some (member_at c j)) z
+open_at c i (x ∷ ms) (suc k) m e o =
+    let z : i + 1 + k ≡ i + suc k = omega arith in
+    ap (slice_get (open_methods c i (x ∷ ms))) (sum_by-cons (λ y. cond (is_open_bound y) 1 0) x (take k ms))
+    ∙ by (is_open_bound x) (open_at c (i + 1) ms k m e o ∙ ap (λ j. Some (member_at c j)) z)
+  where
+    by : (b : Bool) → slice_get (open_methods c (i + 1) ms) (count_by is_open_bound (take k ms)) ≡ Some (member_at c (i
+        + suc k)) → slice_get ((if b then member_at c i ∷ [] else []) ++ open_methods c (i + 1) ms) (cond b 1 0
+        + count_by is_open_bound (take k ms)) ≡ Some (member_at c (i + suc k))
+    by true e =
+        let z : 1 + count_by is_open_bound (take k ms) ≡ suc (count_by is_open_bound (take k ms)) = omega arith in
+        ap (slice_get (member_at c i ∷ open_methods c (i + 1) ms)) z ∙ e
+    by false e =
+        let z : 0 + count_by is_open_bound (take k ms) ≡ count_by is_open_bound (take k ms) = omega arith in
+        ap (slice_get (open_methods c (i + 1) ms)) z ∙ e
 
 none_counted : (ms : List MethodTree) → ((k : ℕ) (m : MethodTree) → slice_get ms k ≡ Some m
     → is_open_bound (method_of_class m) ≡ false) → count_by is_open_bound (map method_of_class ms) ≡ 0
