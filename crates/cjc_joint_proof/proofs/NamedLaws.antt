@@ -41,6 +41,7 @@ use Rattle.cjc_token_proof.proofs.TablesLaws.Clean.{has_named, kept, own_name}
 use Rattle.cjc_token_proof.proofs.TablesLaws.Fields.{first_here}
 use Rattle.cjc_token_proof.proofs.TablesLaws.Filed.{own_in}
 use Rattle.cjc_token_proof.proofs.TablesLaws.Named.{has_info}
+use Rattle.cjc_token_proof.proofs.WorldProofOwn.{hit_is, method_is}
 use Rattle.cjc_token_proof.proofs.VTableFiled.{IsFiled, at-number, filed, in_class_file, in_export_file}
 use Rattle.cjc_token_proof.proofs.WrittenCalls.Found.{Own, own_is, stands_in_method}
 use Rattle.cjc_token_proof.proofs.WrittenCalls.Reached.{find_first}
@@ -107,13 +108,7 @@ module _ (p : Package) (acyclic : IsAcyclic (world p)) (id : MemberId) (c : Clas
   hit_of = let m = o in let k = m.method in record { owner = c; flags = k.flags }
 
   pub hit_here : method_hit w f ≡ Some hit_of
-  hit_here =
-      let sub : length c.fields + o.place - length c.fields ≡ o.place = omega arith in
-      ap (method_hit w) o.is
-      ∙ ap (option_and_then (λ (d : Class). option_map (λ (m : Member). record { owner = d; flags = m.flags })
-      (slice_get d.methods (length c.fields + o.place - length d.fields)))) (at-number p.files id.class c known)
-      ∙ ap (λ j. option_map (λ (m : Member). record { owner = c; flags = m.flags }) (slice_get c.methods j)) sub
-      ∙ ap (option_map (λ (m : Member). record { owner = c; flags = m.flags })) o.there
+  hit_here = ap (method_hit w) o.is ∙ hit_is w c o.place o.method (at-number p.files id.class c known) o.there
 
 -- ---- a method at a place of a class file of a package
 
@@ -132,12 +127,7 @@ module _ (list : List ℕ) (p : Package) (sound : IsSound list p.files)
   method_of = let m = tree.0 in method_by t m m.code
 
   pub method_here : method_at p.files at_it ≡ Some method_of
-  method_here =
-      let long : length (map field_of_class t.fields) ≡ length t.fields = length-map t.fields field_of_class in
-      let sub : length (map field_of_class t.fields) + i - length t.fields ≡ i = omega (arith, long) in
-      ap (option_and_then (method_in (length (map field_of_class t.fields) + i))) file
-      ∙ ap (λ j. option_map (λ (m : MethodTree). method_by t m m.code) (slice_get t.methods j)) sub
-      ∙ ap (option_map (λ (m : MethodTree). method_by t m m.code)) tree.1
+  method_here = method_is p.files n t i tree.0 file tree.1
 
   pub begins_here : is_interface t.flags ≡ false → is_initialiser member.name ≡ false
       → (let v = naming p in start_of v.loaded v.part (method_offset p at_it)
@@ -275,7 +265,7 @@ module _ (packages : List Package) (linked : AreLinked packages) (p : Package) (
             exposed = ap (option_map (λ j. member_at k (length k.fields + j))) (position_and (λ (q : Member). is_exposed
                 q.flags) (λ (q : Member). is_called id.name id.desc q) k.methods i member s.3 shown called once);
             met_hit = record { owner = k; flags = member.flags };
-            is_met_hit = met_is n t its s.3;
+            is_met_hit = hit_is (world e) k i member (at-number e.files t.name k its) s.3;
             method = method_of sound.list e sound.sound begins n t file its i member s.3;
             is_method = method_here sound.list e sound.sound begins n t file its i member s.3;
             listed = ap (option_and_then (λ (v : ExportedClass). slice_get v.methods (member_token p (Some f))))
@@ -285,18 +275,6 @@ module _ (packages : List Package) (linked : AreLinked packages) (p : Package) (
             begins = begins_here sound.list e sound.sound begins n t file its i member s.3 s.2 (ap is_initialiser name
                 ∙ plain);
           }
-        where
-          met_is : (n : ℕ) (t : ClassTree) → class_named (world e) t.name ≡ Some (declared n t)
-              → slice_get (declared n t).methods i ≡ Some member
-              → method_hit (world e) (member_at (declared n t) (length (declared n t).fields + i))
-              ≡ Some (record { owner = declared n t; flags = member.flags })
-          met_is n t its g =
-              let k = declared n t in
-              let sub : length k.fields + i - length k.fields ≡ i = omega arith in
-              ap (option_and_then (λ (d : Class). option_map (λ (m : Member). record { owner = d; flags = m.flags })
-              (slice_get d.methods (length k.fields + i - length d.fields)))) (at-number e.files t.name k its)
-              ∙ ap (λ j. option_map (λ (m : Member). record { owner = k; flags = m.flags }) (slice_get k.methods j)) sub
-              ∙ ap (option_map (λ (m : Member). record { owner = k; flags = m.flags })) g
 
   pub names_shared : (r : ℕ) (e : Package) → slice_get packages r ≡ Some e → h.tree ≡ export_of e
       → BeginsAtOffsets e.files (world e) (naming e) (method_offset e) (place e) → ExportsMethod p e h.entry id f

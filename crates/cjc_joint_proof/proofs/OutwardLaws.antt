@@ -1,5 +1,5 @@
--- Static methods of classes from outside that a package calls: in the group each is the event of its name, by name and by
--- token.
+-- Static methods of classes from outside that a package calls: in the group each is the event of its name, by name and
+-- by token.
 use Rattle.std.proofs.Common.{◌≡◌, ℕ, ◌+◌, sym, ap, subst, ◌∙◌, Bool, true, false, List, Some, None}
 use Rattle.std.specs.Prelude.{Option, option_and_then, option_map, slice_get, unwrap_or, if◌then◌else◌}
 use Rattle.cjc_card_semantics.specs.Bytecode.Alike.{IsFound, reached_as}

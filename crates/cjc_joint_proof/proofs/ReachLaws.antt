@@ -1,5 +1,5 @@
--- Calls of static methods, constructors and private methods reach by token what they reach by name, whichever class they
--- name; so all calls do, where those do that are selected by their receivers.
+-- Calls of static methods, constructors and private methods reach by token what they reach by name, whichever class
+-- they name; so all calls do, where those do that are selected by their receivers.
 use Rattle.std.proofs.Common.{◌≡◌, ℕ, refl, Bool, true, false, List, Some, None}
 use Rattle.std.specs.Prelude.{Option, slice_get}
 use Rattle.cjc_card_semantics.specs.Bytecode.Alike.{IsFound, KnownKind, reached_as}
@@ -17,8 +17,8 @@ use Rattle.cjc_token_proof.specs.Calls.Reaching.{start_placed}
 use Rattle.cjc_token_proof.specs.NCode.ByLabel as ByLabel
 use Rattle.cjc_token_proof.specs.NCode.Lowering.Agreement.{known_by}
 use Rattle.cjc_token_proof.specs.NCode.Lowering.Placed.{Placed}
-use Rattle.cjc_joint_proof.specs.JointAlike.{IsCalled, IsOfGroup, JointNaming, JointReachAgree, callee_at, code_at, joint_names}
-use Rattle.cjc_joint_proof.specs.JointAlike.{offset_at}
+use Rattle.cjc_joint_proof.specs.JointAlike.{IsCalled, IsOfGroup, JointNaming, JointReachAgree, callee_at, code_at}
+use Rattle.cjc_joint_proof.specs.JointAlike.{joint_names, offset_at}
 use Rattle.cjc_joint_proof.specs.JointCalled.{StandByPackage, called_together, is_called_by}
 use Rattle.cjc_joint_proof.specs.JointCode.{InPackage, JointCalls, of_package}
 use Rattle.cjc_joint_proof.specs.JointFixed.{AreFixedNamed, JointSelectionsAgree, NamesFixed, TakesAlone, of_outside}

@@ -46,8 +46,8 @@ pub data NamesFixed (packages : List Package) (p : Package) (id : MemberId) : Ty
       → Calls.words (loaded c.exporter) (Fixed on 0 (method_offset c.exporter c.met)) ≡ Some n)
       → NamesFixed packages p id
 
--- A static method or constructor that a package finds in a class which it imports from another package of the group: the
--- class is one that this package exports, and declares it as a public or protected method of the same name and
+-- A static method or constructor that a package finds in a class which it imports from another package of the group:
+-- the class is one that this package exports, and declares it as a public or protected method of the same name and
 -- descriptor, which Export has under the token that the importing package uses.
 pub record ExportsMethod (p e : Package) (entry : ExportClass) (id : MemberId) (f : Found) : Type 0 where
   pub class : Class

@@ -83,9 +83,9 @@ pub fn joint_entries_are_called()
         → IsOfGroup (group_loaded (group_of packages)) (methods_together packages) start.code }
 {}
 
-/// A static method, a constructor or a private method that a package declares and calls is in the group that very method,
-/// by name and by token, on whatever receiver; it takes by token the words that it takes by name, where it does so in the
-/// package by itself; and where it stands in Method there, it is one of the methods of the group.
+/// A static method, a constructor or a private method that a package declares and calls is in the group that very
+/// method, by name and by token, on whatever receiver; it takes by token the words that it takes by name, where it
+/// does so in the package by itself; and where it stands in Method there, it is one of the methods of the group.
 pub fn joint_own_calls_reach()
     ensures reach { (packages : List Package) → AreLinked packages → (at : Method → Placed)
         → StandByPackage packages at → (q : ℕ) (p : Package) → slice_get packages q ≡ Some p → (id : MemberId)
@@ -111,8 +111,8 @@ pub fn joint_own_calls_reach()
         → IsOfGroup (group_loaded (group_of packages)) (methods_together packages) start.code }
 {}
 
-/// A static method that a package calls of a class from outside makes in the group the event of its name, by name and by
-/// token; and it takes by token the words that it takes by name, where it does so in the package by itself.
+/// A static method that a package calls of a class from outside makes in the group the event of its name, by name and
+/// by token; and it takes by token the words that it takes by name, where it does so in the package by itself.
 pub fn joint_outside_calls_reach()
     ensures reach { (packages : List Package) → AreLinked packages → (at : Method → Placed) → (q : ℕ) (p : Package)
         → slice_get packages q ≡ Some p → (id : MemberId) → NamesOutsideMethod packages p id → (on : Bool)
@@ -131,9 +131,9 @@ pub fn joint_outside_calls_reach()
         in Calls.words g.loaded (callee_at g (of_package q (ByLabel.Fixed on id))) ≡ Some n) }
 {}
 
-/// A static method that a package calls of a class of another package of the group is in the group that package's own, by
-/// name and by token; it takes by token the words that it takes by name, where it does so in its package by itself; and
-/// where it stands in Method there, it is one of the methods of the group.
+/// A static method that a package calls of a class of another package of the group is in the group that package's own,
+/// by name and by token; it takes by token the words that it takes by name, where it does so in its package by itself;
+/// and where it stands in Method there, it is one of the methods of the group.
 pub fn joint_shared_calls_reach()
     ensures reach { (packages : List Package) → AreLinked packages → IsAcyclic (world_together packages)
         → (at : Method → Placed) → StandByPackage packages at → (q : ℕ) (p : Package)
@@ -175,10 +175,10 @@ pub fn joint_calls_reach()
         (IsCalled (called_together packages)) }
 {}
 
-/// A static method, a constructor or a private method that the code of a package names by its class: one of a class file
-/// of the package stands there and begins on the card at its offset, where the methods of Method do; one of a class from
-/// outside is the entry that its token means; and one of a class of another package of the group is the public or
-/// protected method that the class declares there, which Export has under the token.
+/// A static method, a constructor or a private method that the code of a package names by its class: one of a class
+/// file of the package stands there and begins on the card at its offset, where the methods of Method do; one of a
+/// class from outside is the entry that its token means; and one of a class of another package of the group is the
+/// public or protected method that the class declares there, which Export has under the token.
 pub fn fixed_methods_are_named()
     ensures own { (list : List ℕ) (p : Package) → IsSound list p.files → IsAcyclic (world p)
         → BeginsAtOffsets p.files (world p) (naming p) (method_offset p) (place p) → (id : MemberId) (d : Class)

@@ -8,3 +8,4 @@ pub mod Objects
 pub mod Joined
 pub mod Listed
 pub mod StaticCalls
+pub mod Tokened

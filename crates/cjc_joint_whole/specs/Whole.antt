@@ -1,5 +1,5 @@
 -- Packages that were tested and break no rule, as members of a group.
-use Rattle.std.specs.Prelude.{◌≡◌, ℕ, List, Some, false, slice_get}
+use Rattle.std.specs.Prelude.{◌≡◌, ◌+◌, ℕ, List, Some, false, length, slice_get, true}
 use Rattle.cjc_bytes.specs.AccessFlags.{is_private}
 use Rattle.cjc_bytes.specs.declared.settings.Settings.{Settings}
 use Rattle.cjc_bytes.specs.declared.fault.MemberId.{MemberId}
@@ -7,7 +7,11 @@ use Rattle.cjc_components.specs.Bytecode.declared.insn.JInsn.{JInsn}
 use Rattle.cjc_components.specs.Bytecode.declared.insn.JOp.{JOp}
 use Rattle.cjc_components.specs.Bytecode.declared.method_code.MethodCode.{MethodCode}
 use Rattle.cjc_vtable.specs.Fixpoint.Tables.{HasRow}
+use Rattle.cjc_world.specs.Classes.{Class, Member as WorldMember}
+use Rattle.cjc_world.specs.ExportFile.Members.{is_unbound}
 use Rattle.cjc_world.specs.Files.{Files}
+use Rattle.cjc_world.specs.Lookup.{member_at}
+use Rattle.cjc_world.specs.declared.found.Found.{Found}
 use Rattle.cjc_world.specs.declared.image.StaticImage.{StaticImage}
 use Rattle.cjc_world.specs.ExportFile.declared.tree.ExportClass.{ExportClass}
 use Rattle.cjc_world.specs.ExportFile.declared.tree.ExportMethod.{ExportMethod}
@@ -72,3 +76,10 @@ CallsStand members = (p : Member) (m : Method) → member_of members m ≡ Some 
     → (h : IsNamed p.files p.image p.near p.tables m (cells_of t.stack) i.op) → IsCall h
     → IsNamedIn (files_of members) (joint_image (images_of members)) (homes_of members) (tables_of members) m
     (cells_of t.stack) i.op
+
+-- ---- methods that code names by imported classes
+
+-- What is found of a class is a static method or a constructor.
+abbrev pub IsBound : Class → Found → Type 0
+IsBound c f = (i : ℕ) (m : WorldMember) → slice_get c.methods i ≡ Some m → f ≡ member_at c (length c.fields + i)
+    → is_unbound m.flags m.name ≡ true

@@ -32,8 +32,8 @@ pub fn fields_and_objects_stand()
     ensures { (members : List Member) → AreWhole members → CallsStand members → StandTogether members }
 {}
 
-/// A static method that code calls and that a class file of its package declares stands for itself in the joint world, and
-/// is begun there by the tables of its package; one of a class from outside makes an event there.
+/// A static method that code calls and that a class file of its package declares stands for itself in the joint world,
+/// and is begun there by the tables of its package; one of a class from outside makes an event there.
 pub fn static_calls_stand()
     ensures own { (members : List Member) → AreWhole members → (q : ℕ) (p : Member) → slice_get members q ≡ Some p
         → (id : MemberId) → (h : IsStaticOn p.files p.tables id)

@@ -1,5 +1,5 @@
--- Static methods that code calls of class files of its package and of classes from outside: the joint world has each, and
--- the call reaches the same there.
+-- Static methods that code calls of class files of its package and of classes from outside: the joint world has each,
+-- and the call reaches the same there.
 use Rattle.std.proofs.Common.{◌≡◌, ℕ, Bool, true, false, List, Option, Some, refl, sym, ap, subst, ◌∙◌}
 use Rattle.std.specs.Prelude.{◌⊎◌, not, option_map, slice_get, if◌then◌else◌}
 use Rattle.cjc_bytes.specs.AccessFlags.{is_interface, is_static}

@@ -25,6 +25,7 @@ use Rattle.cjc_world.specs.ExportFile.declared.tree.ExportMethod.{ExportMethod}
 use Rattle.cjc_ncode.specs.Lowering.Naming.{IsFixed}
 use Rattle.cjc_components.specs.Paired.Naming.{files_from}
 use Rattle.cjc_token_proof.specs.Subset.Members.{imports}
+use Rattle.cjc_token_proof.specs.Tables.Infos.{HasEntry}
 use Rattle.cjc_token_proof.specs.Tables.Loading.{loaded, naming}
 use Rattle.cjc_token_proof.specs.Tables.Sound.{IsSound}
 use Rattle.cjc_token_proof.proofs.TablesLaws.Above.{entry_of_name}
@@ -169,7 +170,30 @@ module _ (list : List ℕ) (p : Package) (sound : IsSound list p.files) where
             ∙ ap (λ (v : Member). is_unbound z.0.flags z.0.name && (z.0.token == v.token)) y.2 ∙ none);
       }
 
-  -- so it is the first that its token means
+  -- so it is the first that its token means, with its name and its descriptor
+  pub first_listed : (m : MemberId) (c : Class) (f : Found) → class_named w m.class ≡ Some c → c.is_imported ≡ true
+      → is_interface c.flags ≡ false → (h : HasEntry p c) (at : IsAt false m.name m.desc c f)
+      → is_initialiser m.name ≡ false → is_unbound (let k = at.member in k.flags) (let k = at.member in k.name) ≡ true
+      → (x : ExportMethod) × (let e = h.entry in unbound_of e.methods (member_token p (Some f)) ≡ Some x)
+      × (x.name ≡ m.name) × (x.desc ≡ m.desc)
+  first_listed m c f known import plain h at named bound =
+      let is = is_listed m c f (filed p.files m.class c known) import plain at named bound in
+      let k = at.member in
+      let e = h.entry in
+      let x = mapped_at method_of_export e.methods at.place k (ap (λ (q : Class). slice_get q.methods at.place)
+      (sym h.class) ∙ at.is_member) in
+      let same : x.0.token ≡ k.token = ap (λ (v : Member). v.token) (sym x.2) in
+      let first_one : unbound_of e.methods x.0.token ≡ Some x.0 =
+      first_unbound e.methods at.place x.0 x.1 (ap (λ (v : Member). is_unbound v.flags v.name) (sym x.2) ∙ bound)
+      (λ j y l g. (let there : slice_get c.methods j ≡ Some (method_of_export y) = ap (λ (q : Class). slice_get
+      q.methods j) h.class ∙ slice_get-map method_of_export e.methods j ∙ ap (option_map method_of_export) g in
+      ap (λ t. is_unbound y.flags y.name && (y.token == t)) same ∙ is.apart j (method_of_export y) l there)) in (
+        x.0,
+        ap (unbound_of e.methods) (is.token ∙ sym same) ∙ first_one,
+        ap (λ (v : Member). v.name) (sym x.2) ∙ at.has_name,
+        ap (λ (v : Member). v.desc) (sym x.2) ∙ at.has_desc,
+      )
+
   pub fixed_abroad : (on : Bool) (m : MemberId) (c : Class) (f : Found) → class_named w m.class ≡ Some c
       → c.is_imported ≡ true → is_interface c.flags ≡ false → find_method w m.class m.name m.desc ≡ Some f
       → (at : IsAt false m.name m.desc c f)
@@ -177,37 +201,24 @@ module _ (list : List ℕ) (p : Package) (sound : IsSound list p.files) where
       → IsFixed (naming p) on m
   fixed_abroad on m c f known import plain found at named bound =
       let h = entry_of_name list p sound m.class c known import in
-      let is = is_listed m c f (filed p.files m.class c known) import plain at named bound in
-      let k = at.member in
+      let r = first_listed m c f known import plain h at named bound in
       let e = h.entry in
+      let token = member_token p (Some f) in
       let name : c.name ≡ m.class = class_named-name w m.class c known in
       let on_card : class_at p m.class ≡ External h.file e.token = sym (ap (class_at p) name) ∙ h.on_card in
-      let token : member_token p (find_method w m.class m.name m.desc) ≡ k.token = ap (member_token p) found ∙ is.token
-      in
-      let x = mapped_at method_of_export e.methods at.place k (ap (λ (q : Class). slice_get q.methods at.place)
-      (sym h.class) ∙ at.is_member) in
-      let same : x.0.token ≡ k.token = ap (λ (v : Member). v.token) (sym x.2) in
-      let first_one : unbound_of e.methods k.token ≡ Some x.0 =
-      ap (unbound_of e.methods) (sym same)
-      ∙ first_unbound e.methods at.place x.0 x.1 (ap (λ (v : Member). is_unbound v.flags v.name) (sym x.2) ∙ bound)
-      (λ j y l g. (let there : slice_get c.methods j ≡ Some (method_of_export y) = ap (λ (q : Class). slice_get
-      q.methods j) h.class ∙ slice_get-map method_of_export e.methods j ∙ ap (option_map method_of_export) g in
-      ap (λ t. is_unbound y.flags y.name && (y.token == t)) same ∙ is.apart j (method_of_export y) l there)) in
       let import_is : slice_get (files_from 0 p.files.exports) h.file ≡ Some (OfFile h.file) =
       import_at 0 p.files.exports h.file h.tree h.in_list ∙ (let z : 0 + h.file ≡ h.file = omega arith
       in ap (λ n. Some (OfFile n)) z) in
       let entry_name : e.name ≡ m.class = sym (ap (λ (q : Class). q.name) h.class) ∙ name in
-      let member_name : x.0.name ≡ m.name = ap (λ (v : Member). v.name) (sym x.2) ∙ at.has_name in
-      let member_desc : x.0.desc ≡ m.desc = ap (λ (v : Member). v.desc) (sym x.2) ∙ at.has_desc in
       let offset = offset_where p (find_method w m.class m.name m.desc) in
       ap (λ q. static_method (loaded p) 0 on (member_ref q offset (member_token p (find_method w m.class m.name
       m.desc)))) on_card
-      ∙ ap (λ t. static_method (loaded p) 0 on (member_ref (External h.file e.token) offset t)) token
-      ∙ ap (option_and_then (method_through (loaded p) on e.token k.token)) import_is
-      ∙ ap (option_and_then (λ (q : ExportClass). option_map (outer on q.name) (unbound_of q.methods k.token))) h.there
-      ∙ ap (option_map (outer on e.name)) first_one
-      ∙ ap (λ n. Some (Outer on (record { class = n; name = x.0.name; desc = x.0.desc }))) entry_name
-      ∙ ap (λ n. Some (Outer on (record { class = m.class; name = n; desc = x.0.desc }))) member_name
-      ∙ ap (λ n. Some (Outer on (record { class = m.class; name = m.name; desc = n }))) member_desc
+      ∙ ap (λ o. static_method (loaded p) 0 on (member_ref (External h.file e.token) offset (member_token p o))) found
+      ∙ ap (option_and_then (method_through (loaded p) on e.token token)) import_is
+      ∙ ap (option_and_then (λ (q : ExportClass). option_map (outer on q.name) (unbound_of q.methods token))) h.there
+      ∙ ap (option_map (outer on e.name)) r.1
+      ∙ ap (λ n. Some (Outer on (record { class = n; name = r.0.name; desc = r.0.desc }))) entry_name
+      ∙ ap (λ n. Some (Outer on (record { class = m.class; name = n; desc = r.0.desc }))) r.2
+      ∙ ap (λ n. Some (Outer on (record { class = m.class; name = m.name; desc = n }))) r.3
       ∙ sym (ap (λ q. Some (fixed_as on m (member_ref q offset (member_token p (find_method w m.class m.name m.desc)))))
       on_card)
