@@ -11,7 +11,7 @@ use Rattle.cjc_classes.specs.JvmSemantics.Linked.{Method}
 use Rattle.cjc_classes.specs.JvmSemantics.OnePackage.{is_initialiser, method_by}
 use Rattle.cjc_classes.specs.List.Listed.{ListTree}
 use Rattle.cjc_classes.specs.Types.Flow.{Body, body_of}
-use Rattle.cjc_classes.specs.Types.Tables.{Breach, IsMethodOf, IsTypeTable}
+use Rattle.cjc_classes.specs.Types.Tables.{Breach, IsMethodOf, IsTypeTable, rows_of}
 use Rattle.cjc_classes.specs.Types.declared.state.State.{State}
 use Rattle.cjc_classes.specs.Types.declared.table.TypeTable.{TypeTable}
 use Rattle.cjc_components.specs.Bytecode.PackageCodes.{all_codes}
@@ -21,8 +21,14 @@ use Rattle.cjc_int_components.specs.Modes.{AreLeast, AreModes, Tables}
 use Rattle.cjc_int_narrow.specs.LowerIntMode.Modes.{IsModeOf, binds}
 use Rattle.cjc_int_narrow.specs.LowerIntMode.declared.modes.Mode.{Mode}
 use Rattle.cjc_int_narrow.specs.LowerIntMode.declared.modes.Mode.TheVariants as modes
-use Rattle.cjc_int_theorem.specs.Alike.{IsPassedByModes}
-use Rattle.cjc_int_theorem.specs.ByModes.{IsConvertedByModes}
+use Rattle.cjc_check_proof.specs.TokenProof.WrittenCalls.Standing.{AreMethods}
+use Rattle.cjc_int_components.proofs.Words.{methods_are}
+use Rattle.cjc_int_theorem.specs.Alike.{IsJudgedByModes, IsPassedByModes}
+use Rattle.cjc_int_theorem.specs.ByModes.{AreTypedByTables, IsConvertedByModes}
+use Rattle.cjc_narrow_proof.proofs.TypesLeast.{one_least}
+use Rattle.cjc_shape_proof.proofs.WrittenLaws.Coded.{listed}
+use Rattle.cjc_shape_proof.proofs.WrittenLaws.Files.{judged_checked}
+use Rattle.cjc_shape_proof.specs.Written.Checked.{IsChecked}
 use Rattle.cjc_shape_proof.proofs.FlowFirst.{first_broken, nothing_broken}
 use Rattle.cjc_shape_proof.proofs.ShapeSelected.{is_world, same_codes, same_world}
 use Rattle.cjc_shape_proof.proofs.ShapeSound.{are_ready}
@@ -189,3 +195,47 @@ module _ (list : ListTree) (files : List (List ℕ)) (judged : Judged) (is : IsS
         (subst (λ w. AreModes list.ints w t) same converted.modes) (subst (AreTypedIn t) same converted.typed) code
         class method tree of listed plain (t.mode (method_by class method (Some tree))) refl);
   }
+
+-- ---- a package of a list and its files
+
+module _ (list : ListTree) (files : List (List ℕ)) (judged : Judged) (t : Tables) (p : Package)
+    (is : IsJudgedByModes list files judged t p) where
+  checked : IsChecked list judged.codes p
+  checked = judged_checked list files judged p is.read is.sound is.same is.exports is.plain is.agree
+
+  own_methods : AreMethods p
+  own_methods = methods_are list p.files judged.codes t p is.is_package
+
+  tables : (code : MethodCode) (class : ClassTree) (method : MethodTree) (tree : CodeTree)
+      → IsMethodOf p.files code class method tree → Contains judged.codes code → (table : TypeTable)
+      × IsTypeTable (all_classes p.files) (body_of class method tree code.insns) table
+  tables = subst (λ w. (code : MethodCode) (class : ClassTree) (method : MethodTree) (tree : CodeTree)
+      → IsMethodOf w code class method tree → Contains judged.codes code → (table : TypeTable)
+      × IsTypeTable (all_classes w) (body_of class method tree code.insns) table) (sym is.same)
+      (table_is list files judged is.sound)
+
+  typed : AreTypedByTables t p
+  typed code class method tree of place rule breach =
+      let among = listed list judged.codes p checked own_methods code class method tree of in
+      let table = tables code class method tree of among in
+      let body = body_of class method tree code.insns in
+      let x = method_by class method (Some tree) in
+      let own = is.least code class method tree (subst (λ cs. Contains cs code) checked.codes_are among) of in
+      let one : t.types x ≡ rows_of body table.0 = one_least body (t.types x) (rows_of body table.0) own.0
+      table.1.stands.least in
+      table.1.unbroken place rule (subst (λ rows. Breach (all_classes p.files) body rows place rule) one breach)
+
+  pub converted : IsConvertedByModes list judged.codes t p
+  converted = record {
+    checked = checked;
+    is_package = is.is_package;
+    least = is.least;
+    modes = is.modes;
+    typed = typed;
+    words = is.words;
+    forms = is.forms;
+    sizes = is.sizes;
+  }
+
+  pub judged_passed : IsPassedByModes list judged.codes t p
+  judged_passed = passed list files judged is.sound t p is.same converted is.sends

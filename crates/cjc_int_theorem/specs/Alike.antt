@@ -19,7 +19,16 @@ use Rattle.cjc_components.specs.Bytecode.declared.method_code.MethodCode.{Method
 use Rattle.cjc_components.specs.Package.{Package, pool}
 use Rattle.cjc_narrow_proof.specs.Runs.Tables.{Tables as RunTables}
 use Rattle.cjc_int_alike.specs.Converted.{IsNarrowedByModes}
-use Rattle.cjc_int_components.specs.Modes.{Tables, is_int}
+use Rattle.cjc_components.specs.Limits.{form_breaks, of_methods, size_breaks}
+use Rattle.cjc_int_components.specs.Limits.{word_breaks_by_modes}
+use Rattle.cjc_int_components.specs.Modes.{AreLeast, AreModes, Tables, is_int}
+use Rattle.cjc_int_components.specs.Written.{IsPackageByModes}
+use Rattle.cjc_check_proof.specs.WorldProof.Files.{ExportsAreSound}
+use Rattle.cjc_shape_proof.specs.LowerJudge.Spelt.{IsRead}
+use Rattle.cjc_shape_proof.specs.LowerJudge.declared.judged.Judged.{Judged}
+use Rattle.cjc_shape_proof.specs.LowerShape.Prepared.{IsSound}
+use Rattle.cjc_shape_proof.specs.Written.Converted.{ExportsArePlain}
+use Rattle.cjc_vtable.specs.Kept.{ExportsAgree}
 use Rattle.cjc_world.specs.Files.{Files}
 use Rattle.cjc_int_theorem.specs.ByModes.{IsConvertedByModes}
 use Rattle.cjc_int_theorem.specs.Tabled.{IsOwnMethod}
@@ -60,3 +69,22 @@ pub record IsPassedByModes (list : ListTree) (codes : List MethodCode) (t : Tabl
       → IsMethodOf p.files code class method tree → Contains codes code → is_initialiser method.name ≡ false
       → (let x = method_by class method (Some tree) in NoBreach (binds (t.mode x)) (body_of class method tree
       code.insns) (t.types x) (t.ranges x))
+
+-- The package of a list that was read and of files that were judged and break no rule, by the least tables and the modes
+-- of its methods. What is written for it breaks none of 311, 411 and 414 to 417. Its export files say of their classes
+-- what a platform has, don't contradict one another, and send what its components are sent.
+pub record IsJudgedByModes (list : ListTree) (files : List (List ℕ)) (judged : Judged) (t : Tables) (p : Package) :
+    Type 0 where
+  pub read : IsRead list
+  pub sound : IsSound list files judged
+  pub same : p.files ≡ judged.world
+  pub is_package : IsPackageByModes list p.files judged.codes t p
+  pub least : AreLeast p.files t
+  pub modes : AreModes list.ints p.files t
+  pub words : of_methods p (word_breaks_by_modes t p) ≡ []
+  pub forms : form_breaks p ≡ []
+  pub sizes : size_breaks p ≡ []
+  pub exports : ExportsAreSound p.files
+  pub plain : ExportsArePlain p.files
+  pub agree : ExportsAgree (all_classes p.files)
+  pub sends : ExportsSend p

@@ -4,9 +4,7 @@ ghost use Rattle.std.specs.Prelude.{◌≡◌, ℕ, Bool, false, List, Some};
 ghost use Rattle.cjc_bytes.specs.Descriptor.{IsClassName};
 ghost use Rattle.cjc_bytes.specs.declared.fault.MemberId.{MemberId};
 ghost use Rattle.cjc_check_proof.specs.TokenProof.Tables.Loading.{loaded};
-ghost use Rattle.cjc_check_proof.specs.TokenProof.WrittenSends.Sends.{ExportsSend};
 ghost use Rattle.cjc_shape_proof.specs.LowerJudge.declared.judged.Judged.{Judged};
-ghost use Rattle.cjc_shape_proof.specs.LowerShape.Prepared.{IsSound};
 ghost use Rattle.cjc_check_proof.specs.TokenProof.WrittenCalls.Standing.{laid_code};
 ghost use Rattle.cjc_jvm_semantics.specs.ByName.{run as run_by_name};
 ghost use Rattle.cjc_classes.specs.JvmSemantics.Effects.{Fault, exception_class};
@@ -32,7 +30,7 @@ ghost use Rattle.cjc_int_alike.specs.ByModes.{HasIntTables, PassesInIntMode, cod
 ghost use Rattle.cjc_int_alike.specs.Converted.{IsNarrowedByModes};
 ghost use Rattle.cjc_int_components.specs.Modes.{Tables};
 ghost use Rattle.cjc_int_narrow.specs.LowerIntMode.declared.modes.Mode.TheVariants as modes;
-ghost use Rattle.cjc_int_theorem.specs.Alike.{AreRunBy, BehavesByModes, IsPassedByModes};
+ghost use Rattle.cjc_int_theorem.specs.Alike.{AreRunBy, BehavesByModes, IsJudgedByModes, IsPassedByModes};
 ghost use Rattle.cjc_int_theorem.specs.ByModes.{IsConvertedByModes};
 ghost use Rattle.cjc_int_theorem.specs.Tabled.{AreTabledByModes};
 
@@ -99,16 +97,14 @@ pub fn passed_packages_behave_by_modes()
         → IsPassedByModes list codes t p → BehavesByModes list codes t p }
 {}
 
-/// Of files that were judged and break no rule, the package by the modes of its methods is such a one: where it breaks
-/// none of the rules that speak of what is written for it, and its export files send what its components are sent. So
-/// its components behave as its class files.
+/// Of a list that was read and of files that were judged and break no rule, the package by the modes of its methods is
+/// such a one, where it breaks none of the rules that speak of what is written for it. So its class files, run by name,
+/// and its components, run by token, agree for every script.
 pub fn judged_packages_behave_by_modes()
-    ensures passed { (list : ListTree) (files : List (List ℕ)) (judged : Judged) → IsSound list files judged
-        → (t : Tables) (p : Package) → p.files ≡ judged.world → IsConvertedByModes list judged.codes t p
-        → ExportsSend p → IsPassedByModes list judged.codes t p }
-    ensures runs { (list : ListTree) (files : List (List ℕ)) (judged : Judged) → IsSound list files judged
-        → (t : Tables) (p : Package) → p.files ≡ judged.world → IsConvertedByModes list judged.codes t p
-        → ExportsSend p → (script : Script)
+    ensures passed { (list : ListTree) (files : List (List ℕ)) (judged : Judged) (t : Tables) (p : Package)
+        → IsJudgedByModes list files judged t p → IsPassedByModes list judged.codes t p }
+    ensures runs { (list : ListTree) (files : List (List ℕ)) (judged : Judged) (t : Tables) (p : Package)
+        → IsJudgedByModes list files judged t p → (script : Script)
         → Agree 4096 (λ n. run_by_name p.files p.image script n) (λ n. run_by_token (loaded p) script n) }
 {
     components_by_modes_behave_as_class_files();

@@ -13,23 +13,26 @@ use Rattle.cjc_check_proof.specs.WorldProof.Initialisers.Values.{StandOnce}
 use Rattle.cjc_components.specs.Bytecode.PackageCodes.{all_codes}
 use Rattle.cjc_components.specs.Package.{Package}
 use Rattle.cjc_shape.specs.LowerJudge.Rules.{has_applets, settings_of}
-use Rattle.cjc_shape.specs.LowerJudge.Spelt.{FileTree, classes_of, exports_of}
+use Rattle.cjc_shape.specs.LowerJudge.Spelt.{FileTree, classes_of, exports_of, IsRead}
 use Rattle.cjc_shape.specs.LowerJudge.Spelt as spelt_files
 use Rattle.cjc_shape.specs.LowerJudge.Trees.{AllSpelt}
 use Rattle.cjc_shape.specs.LowerJudge.declared.judged.Judged.{Judged}
 use Rattle.cjc_shape.specs.LowerMethods.Ready.{AreReady}
-use Rattle.cjc_shape.proofs.JudgedLaws.Selected.{judged_writable}
+use Rattle.cjc_shape.proofs.JudgedLaws.Selected.{judged_checks, judged_names, judged_writable}
+use Rattle.cjc_shape.specs.Prepared as prepared
+use Rattle.cjc_world.specs.Classes.{all_classes}
 use Rattle.cjc_shape.specs.Judged.Tested.{AreFiles, IsTested}
 use Rattle.cjc_classes.specs.List.Listed.{ListTree}
 use Rattle.cjc_narrow_proof.specs.Laws.Unbroken.{AreSpelt, IsUnbroken}
 use Rattle.cjc_narrow_proof.specs.Selected.Keeps.{IsSpelt}
-use Rattle.cjc_shape.proofs.PreparedLaws.Sound.{are_ready, has_tokens, is_tested, is_unbroken, no_image_break}
-use Rattle.cjc_check_proof.specs.WorldProof.Files.{AreReadFiles}
+use Rattle.cjc_shape.proofs.PreparedLaws.Sound.{are_ready, has_tokens, is_tested, is_unbroken, listed, no_image_break}
+use Rattle.cjc_shape.proofs.PreparedLaws.Sound.{world_unbroken}
+use Rattle.cjc_check_proof.specs.WorldProof.Files.{AreReadFiles, ExportsAreSound}
 use Rattle.cjc_classes.specs.Subset.Checks.{check_breaks}
 use Rattle.cjc_classes.specs.Types.Tables.{IsOfPackage}
 use Rattle.cjc_check_proof.specs.TokenProof.Tables.Sound.{AreFieldDescs, IsSound, export_count}
 use Rattle.cjc_tokens.specs.Rules.{token_breaks}
-use Rattle.cjc_vtable.specs.Kept.{BreaksNone, IsKept}
+use Rattle.cjc_vtable.specs.Kept.{BreaksNone, IsKept, ExportsAgree}
 use Rattle.cjc_shape.proofs.WholeLaws.Drafts.{same_spelt}
 use Rattle.cjc_shape.proofs.WholeLaws.Ints.{package_free}
 use Rattle.cjc_shape.proofs.WholeLaws.Second.{package_is_draft}
@@ -37,7 +40,7 @@ use Rattle.cjc_world.specs.Files.{Files}
 use Rattle.cjc_world.specs.Rules.{breaks}
 use Rattle.cjc_check_proof.specs.TokenProof.WrittenCalls.Standing.{AreMethods}
 use Rattle.cjc_shape_proof.specs.Written.Checked.{IsChecked, KeepsNames}
-use Rattle.cjc_shape_proof.specs.Written.Converted.{IsConverted}
+use Rattle.cjc_shape_proof.specs.Written.Converted.{ExportsArePlain, IsConverted}
 use Rattle.cjc_shape_proof.proofs.WrittenLaws.Checked as checked
 use Rattle.cjc_shape_proof.proofs.WrittenLaws.PackageNames.{package_named}
 use Rattle.cjc_shape_proof.proofs.WrittenLaws.Lines.{exports_few}
@@ -72,6 +75,68 @@ spelt_at (line ∷ lines) (b ∷ files) (spelt_files.of_class tree ∷ trees) h 
 spelt_at (line ∷ lines) (b ∷ files) (spelt_files.of_export tree ∷ trees) h bytes n c e =
     spelt_at lines files trees h.1 (λ k x f. bytes (suc k) x f) n c e
 
+-- ---- a package of files that were judged, whichever of its methods are in int mode
+
+module _ (list : ListTree) (files : List (List ℕ)) (judged : Judged) (p : Package) (read : IsRead list)
+    (sound : prepared.IsSound list files judged) (same : p.files ≡ judged.world) (exports : ExportsAreSound p.files)
+    (plain : ExportsArePlain p.files) (agree : ExportsAgree (all_classes p.files)) where
+  kept : KeepsNames list.name p.files judged.codes (settings_of list)
+  kept = subst (λ (w : Files). KeepsNames list.name w judged.codes (settings_of list)) (sym same) (record {
+    listed = listed list files judged sound;
+    world = world_unbroken list files judged sound;
+    names = judged_names list files judged (is_tested list files judged sound);
+    checks = judged_checks list files judged (is_tested list files judged sound);
+  })
+
+  abbrev trees : List FileTree
+  trees = sound.judged_by.read.trees
+
+  same_exports : (let w = p.files in w.exports) ≡ exports_of trees
+  same_exports = ap (λ (w : Files). w.exports) same ∙ sound.judged_by.read.exports
+
+  same_classes : (let w = p.files in w.classes) ≡ classes_of trees
+  same_classes = ap (λ (w : Files). w.classes) same ∙ sound.judged_by.read.classes
+
+  same_lines : (let w = p.files in w.lines) ≡ list.lines
+  same_lines = ap (λ (w : Files). w.lines) (same ∙ sound.judged_by.world)
+
+  package_spelt : IsClassName (let w = p.files in w.package_name)
+  package_spelt = subst IsClassName (sym (ap (λ (w : Files). w.package_name) (same ∙ sound.judged_by.world)))
+      (package_named list read)
+
+  ready : AreReady p.files judged.codes judged.types
+  ready = subst (λ (w : Files). AreReady w judged.codes judged.types) (sym same)
+      (are_ready list files judged sound)
+
+  -- it breaks no rule of its files
+  pub judged_checked : IsChecked list judged.codes p
+  unfolding ClassBytes
+  judged_checked = record {
+    package_name = package_spelt;
+    classes = λ n c e. spelt_at list.lines files trees sound.judged_by.read.spelt sound.are_files n c
+        (sym (ap (λ cs. slice_get cs n) same_classes) ∙ e);
+    written = λ n t e. judged_writable list files judged (is_tested list files judged sound) n t
+        (sym (ap (λ (w : Files). slice_get w.exports n) same) ∙ e);
+    listed = kept.listed;
+    listed_exports =
+        let few = exports_few list.lines files trees sound.judged_by.read.spelt in
+        let lines = same_lines in
+        subst (λ ls. length (let w = p.files in w.exports) ≤ export_count ls) (sym lines)
+        (subst (λ ts. length ts ≤ export_count list.lines) (sym same_exports) few);
+    codes_are = ready.codes_are;
+    of_package = subst (λ (w : Files). All (IsOfPackage w) judged.codes) (sym same) sound.judged_by.of_package;
+    decoded = ready.decoded;
+    unbroken = kept.world;
+    names = kept.names;
+    checks = kept.checks;
+    initialisers = subst (λ (w : Files). (b : Break) → BreaksImage w judged.codes b → ⊥) (sym same)
+        (no_image_break list files judged sound);
+    tokens = ap (token_breaks (has_applets list)) same ∙ has_tokens list files judged sound;
+    exports = exports;
+    plain = plain;
+    agree = agree;
+  }
+
 -- ---- the package
 
 module _ (list : ListTree) (files : List (List ℕ)) (judged : Judged) (p : Package) (is : IsConverted list files judged
@@ -90,54 +155,9 @@ module _ (list : ListTree) (files : List (List ℕ)) (judged : Judged) (p : Pack
   own_unbroken = subst (λ (w : Files). IsUnbroken list.name w judged.codes (settings_of list)) (sym same_files)
       (is_unbroken list files judged is.sound (package_free list files judged is.sound p is.is_package is.forms))
 
-  abbrev trees : List FileTree
-  trees = is.sound.judged_by.read.trees
-
-  same_exports : (let w = p.files in w.exports) ≡ exports_of trees
-  same_exports = ap (λ (w : Files). w.exports) same_files ∙ is.sound.judged_by.read.exports
-
-  same_classes : (let w = p.files in w.classes) ≡ classes_of trees
-  same_classes = ap (λ (w : Files). w.classes) same_files ∙ is.sound.judged_by.read.classes
-
-  same_lines : (let w = p.files in w.lines) ≡ list.lines
-  same_lines = ap (λ (w : Files). w.lines) (same_files ∙ is.sound.judged_by.world)
-
-  package_spelt : IsClassName (let w = p.files in w.package_name)
-  package_spelt = subst IsClassName (sym (ap (λ (w : Files). w.package_name) (same_files ∙ is.sound.judged_by.world)))
-      (package_named list is.read)
-
-  ready : AreReady p.files judged.codes judged.types
-  ready = subst (λ (w : Files). AreReady w judged.codes judged.types) (sym same_files)
-      (are_ready list files judged is.sound)
-
   -- it breaks no rule of its files
   pub is_checked : IsChecked list judged.codes p
-  unfolding ClassBytes
-  is_checked = record {
-    package_name = package_spelt;
-    classes = λ n c e. spelt_at list.lines files trees is.sound.judged_by.read.spelt is.sound.are_files n c
-        (sym (ap (λ cs. slice_get cs n) same_classes) ∙ e);
-    written = λ n t e. judged_writable list files judged tested n t (sym (ap (λ (w : Files). slice_get w.exports n)
-        same_files) ∙ e);
-    listed = own_unbroken.listed;
-    listed_exports =
-        let few = exports_few list.lines files trees is.sound.judged_by.read.spelt in
-        let lines = same_lines in
-        subst (λ ls. length (let w = p.files in w.exports) ≤ export_count ls) (sym lines)
-        (subst (λ ts. length ts ≤ export_count list.lines) (sym same_exports) few);
-    codes_are = ready.codes_are;
-    of_package = subst (λ (w : Files). All (IsOfPackage w) judged.codes) (sym same_files) is.sound.judged_by.of_package;
-    decoded = ready.decoded;
-    unbroken = own_unbroken.world;
-    names = own_unbroken.names;
-    checks = own_unbroken.checks;
-    initialisers = subst (λ (w : Files). (b : Break) → BreaksImage w judged.codes b → ⊥) (sym same_files)
-        (no_image_break list files judged is.sound);
-    tokens = ap (token_breaks (has_applets list)) same_files ∙ has_tokens list files judged is.sound;
-    exports = is.exports;
-    plain = is.plain;
-    agree = is.agree;
-  }
+  is_checked = judged_checked list files judged p is.read is.sound same_files is.exports is.plain is.agree
 
   abbrev pub own_names : KeepsNames list.name p.files judged.codes (settings_of list)
   own_names = checked.own_names list judged.codes p is_checked
