@@ -18,7 +18,7 @@ use Rattle.cjc_flow.specs.LowerTypes.Search.{cells_of}
 use Rattle.cjc_flow.specs.LowerIntervals.Bounds.{index_range}
 use Rattle.cjc_flow.specs.LowerIntervals.Frames.{RangeState, spans_of}
 use Rattle.cjc_flow.specs.LowerIntervals.Steps.{operand}
-use Rattle.cjc_flow.specs.Tests.Working.Search.{lies_in}
+use Rattle.cjc_flow.specs.Tests.Breaches.{lies_in}
 use Rattle.cjc_flow.specs.Range.Span.{Span}
 
 -- ---- the method

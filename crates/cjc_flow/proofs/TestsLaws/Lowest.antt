@@ -25,10 +25,10 @@ use Rattle.cjc_intervals.specs.Bounds.{index_range, divides, shifts_right, may_h
 use Rattle.cjc_intervals.specs.Bounds.{a_short, a_byte, a_boolean, Bounds, a_comparison, a_division, a_shift, a_table}
 use Rattle.cjc_intervals.specs.Bounds.{a_lookup, a_count, a_reference_count, a_load, a_store, a_static_field, a_field}
 use Rattle.cjc_intervals.specs.Bounds.{an_argument, a_result, a_boolean_element}
-use Rattle.cjc_flow.specs.Tests.Working.Search.{lies_in, tested, lower, kind_rule, part_rule, arguments_rule}
+use Rattle.cjc_flow.specs.Tests.Working.Search.{tested, lower, kind_rule, part_rule, arguments_rule}
 use Rattle.cjc_flow.specs.Tests.Working.Search.{comparison_rule, arithmetic_rule, element_rule, put_rule, lowest_rule}
 use Rattle.cjc_flow.specs.Tests.Working.Search.{low_word_rule, value_rule}
-use Rattle.cjc_flow.specs.Tests.Breaches.{is_of_low_word, is_tested}
+use Rattle.cjc_flow.specs.Tests.Breaches.{is_of_low_word, is_tested, lies_in}
 use Rattle.cjc_flow.specs.declared.tests.passing.Tested.{Tested}
 use Rattle.cjc_flow.specs.declared.tests.passing.Tested.TheVariants as tests
 

@@ -1,14 +1,19 @@
 -- The operands of a method that may lie outside of what some of rules 601 to 609 allow; a test of their numbers says
 -- which.
 use Rattle.std.specs.Prelude.{◌≡◌, ◌⊎◌, ◌<◌, ◌≤◌, ◌==◌, ◌&&◌, ◌||◌, nat_le, not, ℕ, Bool, true, List, Option, Some}
-use Rattle.std.specs.Prelude.{None}
+use Rattle.std.specs.Prelude.{None, int_le}
 use Rattle.cjc_fixpoint.specs.Bytes.declared.breaks.BrokenAt.{BrokenAt}
+use Rattle.cjc_range.specs.Span.{Span}
 use Rattle.cjc_types.specs.declared.state.State.{State}
 use Rattle.cjc_types.specs.Flow.{Body}
 use Rattle.cjc_intervals.specs.Frames.{RangeState}
 use Rattle.cjc_intervals.specs.Tables.{Breach}
 use Rattle.cjc_flow.specs.declared.tests.passing.Tested.{Tested}
 use Rattle.cjc_flow.specs.declared.tests.passing.Tested.TheVariants as tests
+
+-- whether the interval lies within its bound
+abbrev pub lies_in : Span → (bound : Span) → Bool
+lies_in s bound = int_le bound.low s.low && int_le s.high bound.high
 
 -- Where a number is its low word alone: 601 bounds operands of comparisons, 602 of divisions, 603 of shifts to the
 -- right, 604 of switches, and 606 indices of arrays.

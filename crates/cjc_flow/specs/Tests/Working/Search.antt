@@ -1,6 +1,6 @@
 -- The lowest of the tested rules that an instruction breaks, and the first of a method.
 use Rattle.std.specs.Prelude.{ℕ, zero, suc, ◌+◌, ◌==◌, ◌&&◌, nat_le, Bool, if◌then◌else◌, List, [], ◌∷◌, length, Option}
-use Rattle.std.specs.Prelude.{Some, None, int_le}
+use Rattle.std.specs.Prelude.{Some, None}
 use Rattle.cjc_fixpoint.specs.Bytes.Descriptor.{Part}
 use Rattle.cjc_fixpoint.specs.Bytes.declared.fault.MemberId.{MemberId}
 use Rattle.cjc_fixpoint.specs.Bytes.declared.descriptor.Kind.{Kind}
@@ -22,13 +22,10 @@ use Rattle.cjc_intervals.specs.Frames.{RangeState, spans_of}
 use Rattle.cjc_intervals.specs.Steps.{operand}
 use Rattle.cjc_intervals.specs.Values.{boolean_range}
 use Rattle.cjc_intervals.specs.Bounds.{index_range, divides, shifts_right, may_hold_booleans, parameter}
+use Rattle.cjc_flow.specs.Tests.Breaches.{lies_in}
 use Rattle.cjc_flow.specs.declared.tests.passing.Found.{Found}
 use Rattle.cjc_flow.specs.declared.tests.passing.Tested.{Tested}
 use Rattle.cjc_flow.specs.declared.tests.passing.Tested.TheVariants as wanted
-
--- whether the interval lies within its bound
-abbrev pub lies_in : Span → (bound : Span) → Bool
-lies_in s bound = int_le bound.low s.low && int_le s.high bound.high
 
 -- the rule, where the interval does not lie in its bound
 abbrev pub tested : (rule : ℕ) → (bound : Span) → Span → Option ℕ
