@@ -14,7 +14,7 @@ ghost use Rattle.cjc_int_mode.specs.Flow.Constants.{AreNumbers, values_of};
 ghost use Rattle.cjc_int_mode.specs.Intervals.Bounds.{index_range};
 ghost use Rattle.cjc_int_mode.specs.Intervals.Steps.{operand};
 ghost use Rattle.cjc_int_mode.specs.Flow.Tables.{IsRangeTable, ranges_of};
-ghost use Rattle.cjc_int_mode.specs.Flow.Tests.Working.Search.{lies_in};
+ghost use Rattle.cjc_int_mode.specs.Flow.Tests.Breaches.{lies_in};
 ghost use Rattle.cjc_int_mode.specs.Written.{before, index_operand, spans_before};
 ghost use Rattle.cjc_int_narrow.specs.Reached.{known};
 ghost use Rattle.cjc_int_narrow.specs.Select.{AreBefore, rows_before};
