@@ -15,8 +15,7 @@ use Rattle.cjc_types.specs.Search.{cells_of}
 use Rattle.cjc_intervals.specs.Bounds.{Bounds}
 use Rattle.cjc_intervals.specs.Frames.{RangeState, spans_of}
 use Rattle.cjc_intervals.specs.Steps.{operand}
-use Rattle.cjc_flow.specs.Tests.Breaches.{NoBreach}
-use Rattle.cjc_flow.specs.Tests.Working.Search.{lies_in}
+use Rattle.cjc_flow.specs.Tests.Breaches.{NoBreach, lies_in}
 use Rattle.cjc_ncode.specs.ByLabel.{Named}
 use Rattle.cjc_narrow_proof.specs.Selection.Relation.{Kind, Range, Refers, AllWider, none_wider, one_wider}
 use Rattle.cjc_narrow_proof.specs.Selection.Relation.{more_numbers, more_types, number_free, reference_free, free_free}

@@ -30,7 +30,7 @@ use Rattle.cjc_intervals.specs.Values.{exactly}
 use Rattle.cjc_intervals.specs.Steps.{operand, stored, gives, stack_behind, locals_after}
 use Rattle.cjc_intervals.specs.Bounds.{Bounds, index_range}
 use Rattle.cjc_intervals.proofs.Steps.{own_operand}
-use Rattle.cjc_flow.specs.Tests.Working.Search.{lies_in}
+use Rattle.cjc_flow.specs.Tests.Breaches.{lies_in}
 use Rattle.cjc_ncode.specs.ByLabel.{Named}
 use Rattle.cjc_ncode.specs.Written.{Resolution}
 use Rattle.cjc_jvm_semantics.specs.Arithmetic.{is_same}

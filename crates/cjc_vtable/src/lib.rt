@@ -17,9 +17,7 @@ pub mod class_order {
 
 /// What crates above take of cjc_subset.
 pub mod subset {
-    pub use cjc_subset::{
-        any_works_on_int, class_spot, first_broken, is_int_desc, method_spot, names,
-    };
+    pub use cjc_subset::{class_spot, first_broken, is_int_desc, method_spot, names};
 }
 
 /// What crates above take of cjc_tokens.

@@ -1,4 +1,5 @@
--- A method that a look-up finds is in the world, and a call that breaks no rule fits the one that it names.
+-- A method that a look-up finds is in the world, and a call that breaks no rule fits the one that it names, whichever
+-- methods work on int.
 use Rattle.std.proofs.Common.{◌≡◌, ℕ, ◌+◌, refl, sym, ap, ◌∙◌, arith, Bool, true, false, List, [], ◌∷◌, length}
 use Rattle.std.specs.Prelude.{not, ◌&&◌, ◌||◌, ◌==◌, ◌-◌, Option, Some, None, option_and_then, option_map, position}
 use Rattle.std.specs.Prelude.{slice_get, if◌then◌else◌}
@@ -11,7 +12,7 @@ use Rattle.cjc_code.specs.declared.insn.JOp.TheVariants as jop
 use Rattle.cjc_code.specs.declared.method_code.MethodCode.{MethodCode}
 use Rattle.cjc_jvm_semantics.specs.OnePackage.{ResolvedMember, method_hit}
 use Rattle.cjc_narrow_proof.specs.Laws.Calls.{CallFits}
-use Rattle.cjc_narrow_proof.specs.Laws.Unbroken.{IsInsnOf, IsUnbroken}
+use Rattle.cjc_narrow_proof.specs.Laws.Unbroken.{IsInsnOf, KeepsNames}
 use Rattle.cjc_narrow_proof.proofs.LawsLaws.Instructions.{op_there}
 use Rattle.cjc_vtable.specs.LowerSubset.Members.{hit, hit_of}
 use Rattle.cjc_vtable.specs.LowerSubset.Members as subset
@@ -86,7 +87,7 @@ own_hit w name desc c f there e = by (position P c.methods) refl e
         )
 
 pub found_hit : (list : List ℕ) (files : Files) (codes : List MethodCode) (settings : Settings)
-    → IsUnbroken list files codes settings → (class name desc : List ℕ) (f : Found)
+    → KeepsNames list files codes settings → (class name desc : List ℕ) (f : Found)
     → find_method (all_classes files) class name desc ≡ Some f → (h : ResolvedMember)
     × (method_hit (all_classes files) f ≡ Some h)
 unfolding find_method line
@@ -131,7 +132,7 @@ same_hit w f h e = by (class_at w f.imported f.class) e
     by None e = absurd cc
     by (Some c) e = go c (slice_get c.methods (f.member - length c.fields)) e
 
-call_fits : (op : ℕ) (name : List ℕ) (flags : ℕ) → is_unfit_call op name flags ≡ false → CallFits op name flags
+pub call_fits : (op : ℕ) (name : List ℕ) (flags : ℕ) → is_unfit_call op name flags ≡ false → CallFits op name flags
 call_fits op name flags e =
     let h = bool_four (is_other_kind (op == 184) flags) (((op == 182) || (op == 185)) && is_private flags)
     (subset.is_initialiser name) (not (op == 183) && subset.is_constructor name) e in
@@ -168,7 +169,7 @@ call_fits op name flags e =
     open_one false true f g = absurd cc
 
 pub called_fits : (list : List ℕ) (files : Files) (codes : List MethodCode) (settings : Settings)
-    → IsUnbroken list files codes settings → (class : ClassTree) (op : ℕ) (id : MemberId)
+    → KeepsNames list files codes settings → (class : ClassTree) (op : ℕ) (id : MemberId)
     → IsInsnOf files codes class (jop.Call op id)
     → (f : Found) (h : ResolvedMember) → find_method (all_classes files) id.class id.name id.desc ≡ Some f
     → method_hit (all_classes files) f ≡ Some h → CallFits op id.name h.flags

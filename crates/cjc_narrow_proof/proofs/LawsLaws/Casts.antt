@@ -1,4 +1,5 @@
--- The type that a checkcast or an instanceof names, in a method that breaks no rule of names and types.
+-- The type that a checkcast or an instanceof names, in a method that breaks no rule of names and types, whichever
+-- methods work on int.
 use Rattle.std.proofs.Common.{◌≡◌, ℕ, refl, sym, ap, subst, ◌∙◌, arith, Bool, true, false, List, [], ◌∷◌, length}
 use Rattle.std.specs.Prelude.{not, ◌&&◌, ◌||◌, ◌==◌, Option, Some, None, is_some, nat_lt, ◌^◌, option_and_then}
 use Rattle.std.specs.Prelude.{if◌then◌else◌}
@@ -12,7 +13,7 @@ use Rattle.cjc_bytes.proofs.Bools.{or_left, or_right}
 use Rattle.cjc_code.specs.ClassFile.declared.tree.ClassTree.{ClassTree}
 use Rattle.cjc_code.specs.declared.insn.JOp.TheVariants as jop
 use Rattle.cjc_code.specs.declared.method_code.MethodCode.{MethodCode}
-use Rattle.cjc_narrow_proof.specs.Laws.Unbroken.{AreSpelt, IsInsnOf, IsUnbroken}
+use Rattle.cjc_narrow_proof.specs.Laws.Unbroken.{AreSpelt, IsInsnOf, KeepsNames}
 use Rattle.cjc_narrow_proof.proofs.LawsLaws.ClassNames.{each_name}
 use Rattle.cjc_narrow_proof.proofs.LawsLaws.Handlers.{class_there}
 use Rattle.cjc_narrow_proof.proofs.LawsLaws.Instructions.{op_fit, op_there}
@@ -107,7 +108,7 @@ module _ (w : List Class) where
           subst (λ c. IsReadType w (c ∷ bs)) (sym letter) (array_by_name bs (ap (λ c. not (is_descriptor (c ∷ bs))
           || is_type_missing w (c ∷ bs)) (sym letter) ∙ there) fit)
 
-module _ (list : List ℕ) (files : Files) (codes : List MethodCode) (settings : Settings) (is : IsUnbroken list files
+module _ (list : List ℕ) (files : Files) (codes : List MethodCode) (settings : Settings) (is : KeepsNames list files
     codes settings) (spelt : AreSpelt files) (class : ClassTree) where
   -- no class has the empty name
   name_there : (name : List ℕ) → is_name_missing (all_classes files) name ≡ false → is_unsupported_name name ≡ false

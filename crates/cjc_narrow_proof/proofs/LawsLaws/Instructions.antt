@@ -1,4 +1,4 @@
--- What an instruction names in a method that breaks no rule of names and types.
+-- What an instruction names in a method that breaks no rule of names and types, whichever methods work on int.
 use Rattle.std.proofs.Common.{◌≡◌, ℕ, refl, sym, ap, ◌∙◌, Bool, true, false, List, [], ◌++◌}
 use Rattle.std.specs.Prelude.{not, ◌&&◌, ◌||◌, Option, Some, None, option_and_then, slice_get, if◌then◌else◌}
 use Rattle.std.specs.List.{Contains}
@@ -19,7 +19,7 @@ use Rattle.cjc_code.specs.declared.insn.JOp.{JOp}
 use Rattle.cjc_code.specs.declared.insn.JOp.TheVariants as jop
 use Rattle.cjc_code.specs.declared.method_code.MethodCode.{MethodCode}
 use Rattle.cjc_jvm_semantics.specs.OnePackage.{is_made, made_of, object_fields}
-use Rattle.cjc_narrow_proof.specs.Laws.Unbroken.{IsInsnOf, IsUnbroken}
+use Rattle.cjc_narrow_proof.specs.Laws.Unbroken.{IsInsnOf, IsUnbroken, KeepsNames}
 use Rattle.cjc_narrow_proof.proofs.LawsLaws.Handlers.{class_there, entry_clean, insn_clean}
 use Rattle.cjc_vtable.proofs.SubsetCallees.{method_unfound}
 use Rattle.cjc_vtable.specs.LowerSubset.Checks.{check_breaks, class_breaks, code_breaks, insn_breaks, list_breaks}
@@ -154,7 +154,11 @@ module _ (files : Files) (class : ClassTree) where
 
 -- ---- of a package
 
-module _ (list : List ℕ) (files : Files) (codes : List MethodCode) (settings : Settings) (is : IsUnbroken list files
+pub kept_names : {list : List ℕ} {files : Files} {codes : List MethodCode} {settings : Settings}
+    → IsUnbroken list files codes settings → KeepsNames list files codes settings
+kept_names is = record { listed = is.listed; world = is.world; names = is.names; checks = is.checks }
+
+module _ (list : List ℕ) (files : Files) (codes : List MethodCode) (settings : Settings) (is : KeepsNames list files
     codes settings) (class : ClassTree) (op : JOp) (at : IsInsnOf files codes class op) where
   pub op_there : (names_missing (all_classes files) op ≡ false) × (names_unfound (all_classes files) op ≡ false)
       × (names_unfit files class op ≡ false)
@@ -180,7 +184,7 @@ module _ (list : List ℕ) (files : Files) (codes : List MethodCode) (settings :
       at.place at.insn at.is_insn in
       (ap names_unsupported (sym at.is_op) ∙ fit.0, ap (names_variable files) (sym at.is_op) ∙ fit.1)
 
-module _ (list : List ℕ) (files : Files) (codes : List MethodCode) (settings : Settings) (is : IsUnbroken list files
+module _ (list : List ℕ) (files : Files) (codes : List MethodCode) (settings : Settings) (is : KeepsNames list files
     codes settings) (class : ClassTree) (id : MemberId) where
   -- 205: what invokevirtual names is no interface
   pub virtual_there : IsInsnOf files codes class (jop.Call 0xB6 id)

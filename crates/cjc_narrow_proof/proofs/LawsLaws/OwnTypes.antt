@@ -14,10 +14,11 @@ use Rattle.cjc_code.specs.ClassFile.declared.tree.ClassTree.{ClassTree}
 use Rattle.cjc_code.specs.ClassFile.declared.tree.MethodTree.{MethodTree}
 use Rattle.cjc_code.specs.declared.insn.JOp.TheVariants as jop
 use Rattle.cjc_code.specs.declared.method_code.MethodCode.{MethodCode}
+use Rattle.cjc_jvm_semantics.specs.OnePackage.{is_initialiser}
 use Rattle.cjc_narrow_proof.specs.Laws.Unbroken.{IsInsnOf, IsUnbroken}
-use Rattle.cjc_narrow_proof.proofs.LawsLaws.Instructions.{op_fit}
+use Rattle.cjc_narrow_proof.proofs.LawsLaws.Instructions.{kept_names, op_fit}
 use Rattle.cjc_narrow_proof.proofs.LawsLaws.WordTypes.{word_desc}
-use Rattle.cjc_narrow_proof.proofs.SelectedLaws.IntFree.{code_free, op_free, own_desc}
+use Rattle.cjc_narrow_proof.proofs.SelectedLaws.IntFree.{op_free, own_desc}
 use Rattle.cjc_vtable.specs.LowerSubset.Checks.{check_breaks, method_breaks}
 use Rattle.cjc_vtable.specs.LowerSubset.Flags.{is_unfit_method}
 use Rattle.cjc_vtable.specs.LowerSubset.Limits.{has_deep_stack, has_many_locals}
@@ -57,17 +58,18 @@ module _ (list : List ℕ) (files : Files) (codes : List MethodCode) (settings :
 
   -- 301 of a method itself, which does not work on int
   pub own_word_desc : (code : MethodCode) (class : ClassTree) (method : MethodTree) (tree : CodeTree)
-      → IsMethodOf files code class method tree → Contains codes code → (d : Parts) → length method.desc < 2 ^ 32
-      → desc_of method.desc ≡ Some d → d.is_method ≡ true → IsWordDesc method.desc
-  own_word_desc code class method tree of listed d short e m =
+      → IsMethodOf files code class method tree → Contains codes code → is_initialiser method.name ≡ false
+      → (d : Parts) → length method.desc < 2 ^ 32 → desc_of method.desc ≡ Some d → d.is_method ≡ true
+      → IsWordDesc method.desc
+  own_word_desc code class method tree of listed written d short e m =
       word_desc method.desc d short e m (own_types class method code.class code.method of.is_class of.is_method)
-      (own_desc files code class method tree of (code_free files codes is.no_int code listed))
+      (own_desc files code class method tree of (is.no_int code class method tree listed of written))
 
   -- 301 of a method that is called
   pub called_word_desc : (class : ClassTree) (op : ℕ) (id : MemberId) → IsInsnOf files codes class (jop.Call op id)
       → (d : Parts) → length id.desc < 2 ^ 32 → desc_of id.desc ≡ Some d → d.is_method ≡ true → IsWordDesc id.desc
   unfolding names_unsupported works_on_int
   called_word_desc class op id at d short e m =
-      let unsupported = (op_fit list files codes settings is class (jop.Call op id) at).0 in
+      let unsupported = (op_fit list files codes settings (kept_names is) class (jop.Call op id) at).0 in
       word_desc id.desc d short e m (or_right (is_unsupported_name id.class) (is_unsupported_desc id.desc) unsupported)
       (op_free files codes is.no_int class (jop.Call op id) at)

@@ -37,8 +37,8 @@ module _ (list : List ℕ) (files : Files) (codes : List MethodCode) (settings :
         passes = h.passes;
         found = flags_by_name files list is.listed is.world (let k = h.code in k.class) h.class of.is_class
             (let k = h.code in k.method) h.method of.is_method;
-        desc = own_word_desc list files codes settings is h.code h.class h.method h.tree of h.listed read.types
-            read.short read.is_desc read.is_method;
+        desc = own_word_desc list files codes settings is h.code h.class h.method h.tree of h.listed h.written
+            read.types read.short read.is_desc read.is_method;
         named = own_name files list is.listed is.world spelt (let k = h.code in k.class) h.class of.is_class;
         begins = record { some = read.some; room = room_to_begin files h.code h.class h.method h.tree of read.short };
         caught = λ c name there e. (let found = class_there (all_classes files) name (caught_there files codes is.names

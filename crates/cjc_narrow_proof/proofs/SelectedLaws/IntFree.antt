@@ -1,7 +1,7 @@
 -- Methods with code that don't work on int: none of a package whose list does not allow int does.
 use Rattle.std.proofs.Common.{◌≡◌, ℕ, ◌+◌, refl, sym, ap, ◌∙◌, Bool, true, false, not, ◌&&◌, ◌||◌, ◌==◌, List}
 use Rattle.std.proofs.Common.{[], ◌∷◌, ◌++◌, slice_get, Option, Some, None}
-use Rattle.std.specs.List.{Contains, list_any}
+use Rattle.std.specs.List.{list_any}
 use Rattle.std.proofs.lemmas.Option.{slice_get-get_or}
 use Rattle.std.proofs.lemmas.Bool.{or_from}
 use Rattle.cjc_bytes.specs.Breaks.{Break, at, each_from}
@@ -18,12 +18,12 @@ use Rattle.cjc_code.specs.declared.insn.JInsn.{JInsn}
 use Rattle.cjc_code.specs.declared.insn.JOp.{JOp}
 use Rattle.cjc_code.specs.declared.insn.JOp.TheVariants as jop
 use Rattle.cjc_code.specs.declared.method_code.MethodCode.{MethodCode}
-use Rattle.cjc_narrow_proof.specs.Laws.Unbroken.{IsInsnOf}
+use Rattle.cjc_narrow_proof.specs.Laws.Unbroken.{IsInsnOf, NoneWorksOnInt}
 use Rattle.cjc_vtable.proofs.SubsetAny.{none_passes}
 use Rattle.cjc_vtable.specs.LowerSubset.Checks.{check_breaks, class_breaks, code_breaks, field_breaks, insn_breaks}
 use Rattle.cjc_vtable.specs.LowerSubset.Checks.{list_breaks}
 use Rattle.cjc_vtable.specs.LowerSubset.Checks.{method_breaks, own_breaks}
-use Rattle.cjc_vtable.specs.LowerSubset.Ints.{any_works_on_int, code_works_on_int, method_there, method_works_on_int}
+use Rattle.cjc_vtable.specs.LowerSubset.Ints.{code_works_on_int, method_there, method_works_on_int}
 use Rattle.cjc_vtable.specs.LowerSubset.Ints.{works_on_int}
 use Rattle.cjc_vtable.specs.LowerSubset.Places.{of_class, of_method}
 use Rattle.cjc_vtable.specs.LowerSubset.Types.{is_int_desc, is_int_name, names_int}
@@ -50,15 +50,10 @@ module _ (files : Files) (code : MethodCode) (class : ClassTree) (method : Metho
 
 -- ---- a method of a package without int
 
-module _ (files : Files) (codes : List MethodCode) (none : any_works_on_int files codes ≡ false) where
-  pub code_free : (code : MethodCode) → Contains codes code → code_works_on_int files code ≡ false
-  code_free code (n, lt, same) =
-      let there : slice_get codes n ≡ Some code = slice_get-get_or codes n code lt ∙ ap Some same in
-      any_off (λ c. code_works_on_int files c) codes n code none there
-
+module _ (files : Files) (codes : List MethodCode) (none : NoneWorksOnInt files codes) where
   pub op_free : (class : ClassTree) (op : JOp) → IsInsnOf files codes class op → works_on_int op ≡ false
   op_free class op at =
-      let free = code_free at.code at.listed in
+      let free = none at.code class at.method at.tree at.listed at.of_package at.written in
       ap works_on_int (sym at.is_op) ∙ insn_free files at.code class at.method at.tree at.of_package free at.place
       at.insn at.is_insn
 
@@ -149,9 +144,9 @@ module _ (list : List ℕ) (files : Files) (codes : List MethodCode) (settings :
       in
       unnamed (names_int i.op) (not_broken _ _ 302 (none_right _ _ (none_left _ _ own)))
 
-  code_unnamed : (n : ℕ) (code : MethodCode) → slice_get codes n ≡ Some code → code_works_on_int files code ≡ false
+  pub code_without : (n : ℕ) (code : MethodCode) → slice_get codes n ≡ Some code → code_works_on_int files code ≡ false
   unfolding code_works_on_int
-  code_unnamed n code there = by (slice_get files.classes code.class) refl
+  code_without n code there = by (slice_get files.classes code.class) refl
     where
       by_method : (class : ClassTree) → slice_get files.classes code.class ≡ Some class → (o : Option MethodTree)
           → slice_get class.methods code.method ≡ o → method_works_on_int code.insns o ≡ false
@@ -166,5 +161,6 @@ module _ (list : List ℕ) (files : Files) (codes : List MethodCode) (settings :
       by None e = refl
       by (Some class) e = by_method class e (slice_get class.methods code.method) refl
 
-  pub none_without : any_works_on_int files codes ≡ false
-  none_without = none_passes (λ c. code_works_on_int files c) codes code_unnamed
+  pub none_without : NoneWorksOnInt files codes
+  none_without code class method tree listed of written =
+      code_without listed.0 code (slice_get-get_or codes listed.0 code listed.1 ∙ ap Some listed.2)

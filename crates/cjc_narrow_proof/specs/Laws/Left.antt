@@ -1,7 +1,7 @@
 -- What is asked of a package that breaks no rule of names, types and limits, so that its narrow code runs as its class
 -- files: its tables, and what is not
 -- shown of its rules yet.
-use Rattle.std.specs.Prelude.{◌≡◌, ◌<◌, ◌^◌, ℕ, true, List, length, Some}
+use Rattle.std.specs.Prelude.{◌≡◌, ◌<◌, ◌^◌, ℕ, false, true, List, length, Some}
 use Rattle.std.specs.List.{Contains}
 use Rattle.cjc_bytes.specs.Descriptor.{Parts}
 use Rattle.cjc_bytes.specs.Spots.{desc_of}
@@ -13,7 +13,7 @@ use Rattle.cjc_code.specs.declared.method_code.MethodCode.{MethodCode}
 use Rattle.cjc_types.specs.Fixpoint.Tables.{HasRow}
 use Rattle.cjc_jvm_semantics.specs.Effects.{Fault, exception_class}
 use Rattle.cjc_jvm_semantics.specs.Linked.{Method}
-use Rattle.cjc_jvm_semantics.specs.OnePackage.{method_by}
+use Rattle.cjc_jvm_semantics.specs.OnePackage.{is_initialiser, method_by}
 use Rattle.cjc_narrow.specs.Rows.Resolved.{constant_named}
 use Rattle.cjc_narrow_proof.specs.Runs.Converted.{IsException, IsFirst, IsFound}
 use Rattle.cjc_narrow_proof.specs.Runs.Names.{AreNamed}
@@ -35,15 +35,15 @@ pub record IsReadMethod (code : MethodCode) (method : MethodTree) : Type 0 where
   pub short : length method.desc < 2 ^ 32
   pub some : 0 < length code.insns
 
--- A method of the package whose type table is the least one, as inference answers it, which breaks none of 501 to 503,
--- and whose intervals are the least over it
--- and break none of 601 to 609.
+-- A method of the package, no initialiser, whose type table is the least one, as inference answers it, which breaks
+-- none of 501 to 503, and whose intervals are the least over it and break none of 601 to 609.
 pub record HasLeast (files : Files) (codes : List MethodCode) (tables : Tables) (m : Method) : Type 0 where
   pub code : MethodCode
   pub class : ClassTree
   pub method : MethodTree
   pub tree : CodeTree
   pub of_package : IsMethodOf files code class method tree
+  pub written : is_initialiser method.name ≡ false
   pub listed : Contains codes code
   pub read : IsReadMethod code method
   pub is : m ≡ method_by class method (Some tree)
