@@ -6,10 +6,8 @@ use Rattle.cjc_list.specs.Bytes.Order.{file_of}
 use Rattle.cjc_list.specs.Bytes.Refused.{method_text}
 use Rattle.cjc_capwrite.specs.Files.{ends_too_far, is_too_large, infos_of}
 use Rattle.cjc_check_rules.specs.ExportFile.Written.{constants}
-use Rattle.cjc_clinit.specs.Bytecode.PackageCodes.{all_codes}
 use Rattle.cjc_clinit.specs.World.declared.found.Found.{Found}
 use Rattle.cjc_clinit.specs.World.Classes.{Member, Class, class_at}
-use Rattle.cjc_clinit.specs.Subset.Ints.{any_works_on_int}
 use Rattle.cjc_emit.specs.LowerLayout.Refusals.{overtaking, least}
 use Rattle.cjc_narrow.specs.Rows.Resolved.{argument_words}
 use Rattle.cjc_components.specs.Package.{LaidMethod, Package, world, pool}
@@ -69,15 +67,6 @@ abbrev pub of_methods : Package → (Class → LaidMethod → List Break) → Li
 of_methods p breaks = flat_map (λ m. let f = m.member in in_class breaks m (class_at (world p) f.imported f.class))
     p.methods
 
--- 801: the list allows int, and a method with code works on it, for which nothing can be written yet.
-abbrev pub has_int_code : Package → Bool
-has_int_code p = let list = p.list in let files = p.files in list.ints && any_works_on_int files (all_codes
-    files.classes)
-
--- the place is the list
-abbrev pub int_breaks : Package → List Break
-int_breaks p = at (has_int_code p) (spot_of_list p) 801
-
 -- ---- the whole
 
 -- 414: more than 16,383 entries, in the constant pool or in that of the export file.
@@ -113,10 +102,6 @@ size_breaks p = at (has_far_types p) (spot_of_list p) 411 ++ at (has_large_compo
 abbrev pub form_breaks : Package → List Break
 form_breaks p = of_methods p (layout_breaks p) ++ at (has_many_entries p) (spot_of_list p) 414
 
--- 801, where it stands, speaks of methods that have room for their arguments, and the others of a package without it
-abbrev pub code_breaks : Package → List Break
-code_breaks p = else_of (int_breaks p) (form_breaks p)
-
--- All that is broken of 311, 411, 414 to 417 and 801.
+-- All that is broken of 311, 411 and 414 to 417.
 abbrev pub limit_breaks : Package → List Break
-limit_breaks p = else_of (of_methods p (word_breaks p)) (else_of (code_breaks p) (size_breaks p))
+limit_breaks p = else_of (of_methods p (word_breaks p)) (else_of (form_breaks p) (size_breaks p))

@@ -43,7 +43,7 @@ pub mod class_order {
 
 /// What crates above take of subset.
 pub mod subset {
-    pub use cjc_vtable::subset::{any_works_on_int, is_int_desc};
+    pub use cjc_vtable::subset::is_int_desc;
 }
 
 /// What crates above take of tokens.

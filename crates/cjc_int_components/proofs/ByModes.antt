@@ -1,6 +1,6 @@
 -- Where no method is in int mode, what is written by modes is what is written without them.
 use Rattle.std.proofs.Common.{◌≡◌, ℕ, refl, sym, ap, ◌∙◌, Bool, true, false, List, ◌||◌}
-use Rattle.std.specs.Prelude.{Option, Some, None, is_some, slice_get}
+use Rattle.std.specs.Prelude.{Option, Some, is_some, slice_get}
 use Rattle.std.specs.List.{Contains}
 use Rattle.cjc_check_proof.proofs.BytesGets.{any_off}
 use Rattle.cjc_int_narrow.specs.Bytes.declared.fault.MemberId.{MemberId}
@@ -14,35 +14,24 @@ use Rattle.cjc_check_proof.specs.Intervals.Frames.{RangeState}
 use Rattle.cjc_check_proof.specs.JvmSemantics.Linked.{Method}
 use Rattle.cjc_check_proof.specs.JvmSemantics.OnePackage.{method_at, method_by}
 use Rattle.cjc_check_proof.specs.LowerList.Listed.{ListTree}
-use Rattle.cjc_int_narrow.specs.LowerNarrow.Rows.Package.{code_of}
 use Rattle.cjc_int_narrow.specs.LowerNarrow.Rows.Selected.{near_fields}
 use Rattle.cjc_int_narrow.specs.ClassFile.Code.{CodeTree}
 use Rattle.cjc_int_narrow.specs.ClassFile.declared.tree.ClassTree.{ClassTree}
 use Rattle.cjc_int_narrow.specs.ClassFile.declared.tree.MethodTree.{MethodTree}
 use Rattle.cjc_int_narrow.specs.World.Files.{Files}
-use Rattle.cjc_int_narrow.specs.World.declared.found.Found.{Found}
 use Rattle.cjc_check_proof.specs.LowerComponents.Components.{components_of, header, header_flags, uses_int}
 use Rattle.cjc_check_proof.specs.LowerComponents.Exports.{export}
 use Rattle.cjc_check_proof.specs.LowerComponents.Package.{LaidMethod, Package, has_applets, pool, world}
-use Rattle.cjc_check_proof.specs.LowerComponents.Written.{IsPackage, IsWritten, code_by}
+use Rattle.cjc_check_proof.specs.LowerComponents.Written.{IsPackage, IsWritten}
 use Rattle.cjc_int_narrow.specs.LowerIntMode.Modes.{IsModeOf}
 use Rattle.cjc_int_narrow.specs.LowerIntMode.declared.modes.Mode.{Mode}
 use Rattle.cjc_int_narrow.specs.LowerIntMode.declared.modes.Mode.TheVariants as modes
 use Rattle.cjc_int_components.specs.Components.{components_by_modes, has_int_mode, is_in_int_mode}
-use Rattle.cjc_int_components.specs.Modes.{AreModes, Tables, is_int}
-use Rattle.cjc_int_components.specs.Written.{IsPackageByModes, IsWrittenByMode, code_by_mode, code_in}
+use Rattle.cjc_int_components.specs.Modes.{AreModes, Tables}
+use Rattle.cjc_int_components.specs.Written.{IsPackageByModes, IsWrittenByMode}
+use Rattle.cjc_int_package.proofs.ByModes.{same_code}
 
 -- ---- one method
-
-same_code : (files : Files) (near : List MemberId) (t : Tables) (f : Found) (o : Option Method)
-    → is_in_int_mode t o ≡ false → code_by_mode files near t f o ≡ code_by files near t.types f o
-same_code files near t f None off = refl
-same_code files near t f (Some m) off = go (t.mode m) refl off
-  where
-    go : (mode : Mode) → t.mode m ≡ mode → is_int mode ≡ false → code_in files near t (t.mode m) m
-        ≡ code_of files near t.types m
-    go modes.Short e h = ap (λ q. code_in files near t q m) e
-    go modes.Int e h = absurd cc
 
 -- a method that is not in int mode is written as in a package without int mode
 pub written_outside : (files : Files) (near : List MemberId) (t : Tables) (m : LaidMethod)

@@ -4,6 +4,7 @@ pub mod Layouts
 pub mod Made
 pub mod ByTables
 pub mod ByModes
+pub mod Consistent
 pub mod Room
 pub mod Words
 pub mod Operations

@@ -23,25 +23,21 @@ use Rattle.cjc_check_proof.specs.Tokens.Members.{is_initialiser}
 use Rattle.cjc_check_proof.specs.Types.Flow.{Body, body_of}
 use Rattle.cjc_check_proof.specs.Types.Tables.{IsMethodOf}
 use Rattle.cjc_check_proof.specs.Types.declared.state.State.{State}
-use Rattle.cjc_check_proof.specs.Intervals.Frames.{RangeState}
 use Rattle.cjc_check_proof.specs.JvmSemantics.Linked.{Method}
 use Rattle.cjc_check_proof.specs.JvmSemantics.OnePackage.{method_at, method_by}
 use Rattle.cjc_int_narrow.specs.LowerNarrow.Rows.Package.{flags_of, read_of}
 use Rattle.cjc_int_narrow.specs.LowerNarrow.Rows.Resolved as resolved
 use Rattle.cjc_check_proof.specs.LowerComponents.Descriptor.{method_in}
-use Rattle.cjc_check_proof.specs.LowerComponents.Limits.{else_of, form_breaks, has_many_words, in_class, int_breaks}
-use Rattle.cjc_check_proof.specs.LowerComponents.Limits.{limit_breaks, method_spot, of_methods, size_breaks}
-use Rattle.cjc_check_proof.specs.LowerComponents.Limits.{spot_of_list, word_breaks}
+use Rattle.cjc_check_proof.specs.LowerComponents.Limits.{else_of, form_breaks, has_many_words, in_class, limit_breaks}
+use Rattle.cjc_check_proof.specs.LowerComponents.Limits.{method_spot, of_methods, size_breaks, word_breaks}
 use Rattle.cjc_check_proof.specs.LowerComponents.Package.{LaidMethod, Package, world}
 use Rattle.cjc_check_proof.specs.NarrowProof.Selected.Keeps.{FindsItself}
-use Rattle.cjc_int_narrow.proofs.IntModeNamed.{names_same}
-use Rattle.cjc_int_narrow.specs.LowerIntMode.Modes.{IsModeOf, by_name, names_int}
+use Rattle.cjc_int_narrow.proofs.IntModeNamed.{free_in_short_mode}
 use Rattle.cjc_int_narrow.specs.LowerIntMode.Room.{IsRoom, LacksRoom, many_arguments}
 use Rattle.cjc_int_narrow.specs.LowerIntMode.Written.{argument_words, params_by}
 use Rattle.cjc_int_narrow.specs.LowerIntMode.declared.modes.Mode.{Mode}
 use Rattle.cjc_int_narrow.specs.LowerIntMode.declared.modes.Mode.TheVariants as modes
 use Rattle.cjc_int_components.specs.Components.{has_int_mode, is_in_int_mode}
-use Rattle.cjc_int_components.specs.Limits.{code_breaks_by_modes, int_breaks_by_modes}
 use Rattle.cjc_int_components.specs.Limits.{lacks_int_room, lacks_room, limit_breaks_by_modes, word_breaks_by_modes}
 use Rattle.cjc_int_components.specs.Modes.{AreModes, Tables, is_int}
 use Rattle.cjc_int_package.proofs.Room.{told_in_int_mode}
@@ -127,23 +123,10 @@ module _ (t : Tables) (p : Package) (off : has_int_mode t p ≡ false) where
       (λ m. in_class (word_breaks p) m (class_at (world p) m.member.imported m.member.class)) p.methods
       (λ k m e. one_word k m e (class_at (world p) m.member.imported m.member.class))
 
-  pub limits_as_before : int_breaks p ≡ [] → limit_breaks_by_modes t p ≡ limit_breaks p
-  limits_as_before none =
-      let mine : int_breaks_by_modes t p ≡ [] = ap (λ b. at b (spot_of_list p) 801) off in
-      ap (λ ws. else_of ws (else_of (code_breaks_by_modes t p) (size_breaks p))) words_as_before
-      ∙ ap (λ bs. else_of (of_methods p (word_breaks p)) (else_of (else_of bs (form_breaks p)) (size_breaks p)))
-      (mine ∙ sym none)
+  pub limits_as_before : limit_breaks_by_modes t p ≡ limit_breaks p
+  limits_as_before = ap (λ ws. else_of ws (else_of (form_breaks p) (size_breaks p))) words_as_before
 
 -- ---- what works on int
-
-named_in_int_mode : (b : Body) (types : List (Option State)) (ranges : List (Option RangeState)) (mode : Mode)
-    → mode ≡ modes.Short → IsModeOf true b types ranges mode → names_int b ≡ false
-named_in_int_mode b types ranges modes.Int e needed = absurd cc
-named_in_int_mode b types ranges modes.Short e free = by (names_int b) refl
-  where
-    by : (n : Bool) → names_int b ≡ n → n ≡ false
-    by true e = absurd (free (record { allowed = refl; needed = by_name e }))
-    by false e = refl
 
 pub works_in_int_mode : (files : Files) (t : Tables) → AreModes true files t → (code : MethodCode) (class : ClassTree)
     (method : MethodTree) (tree : CodeTree) → Contains (all_codes files.classes) code
@@ -151,6 +134,5 @@ pub works_in_int_mode : (files : Files) (t : Tables) → AreModes true files t �
     → t.mode (method_by class method (Some tree)) ≡ modes.Short → code_works_on_int files code ≡ false
 works_in_int_mode files t are code class method tree there is written short =
     let x : Method = method_by class method (Some tree) in
-    names_same files code class method tree is
-    ∙ named_in_int_mode (body_of class method tree code.insns) (t.types x) (t.ranges x) (t.mode x) short
+    free_in_short_mode files code class method tree is (t.types x) (t.ranges x) (t.mode x) short
     (are.with_code code class method tree there is written)

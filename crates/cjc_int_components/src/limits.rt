@@ -14,7 +14,7 @@ ghost use Rattle.cjc_check_proof.specs.Types.Flow.{Body, body_of};
 ghost use Rattle.cjc_check_proof.specs.Types.Tables.{IsMethodOf};
 ghost use Rattle.cjc_check_proof.specs.Types.declared.state.State.{State};
 ghost use Rattle.cjc_check_proof.specs.JvmSemantics.OnePackage.{method_by};
-ghost use Rattle.cjc_check_proof.specs.LowerComponents.Limits.{has_many_words, int_breaks, limit_breaks, of_methods};
+ghost use Rattle.cjc_check_proof.specs.LowerComponents.Limits.{has_many_words, limit_breaks, of_methods};
 ghost use Rattle.cjc_check_proof.specs.LowerComponents.Limits.{word_breaks};
 ghost use Rattle.cjc_check_proof.specs.LowerComponents.Package.{Package};
 ghost use Rattle.cjc_check_proof.specs.NarrowProof.Selected.Keeps.{FindsItself};
@@ -36,12 +36,11 @@ pub fn room_is_told_by_modes()
         → IsRoom b types modes.Short (not (has_many_words m)) }
 {}
 
-/// Where no method is in int mode, 417 is broken just where it is without modes, and where 801 is unbroken without
-/// them, so are all limits.
+/// Where no method is in int mode, 417 is broken just where it is without modes, and so are all limits.
 pub fn limits_without_int_mode_are_as_before()
     ensures words { (t : Tables) (p : Package) → has_int_mode t p ≡ false
         → of_methods p (word_breaks_by_modes t p) ≡ of_methods p (word_breaks p) }
-    ensures limits { (t : Tables) (p : Package) → has_int_mode t p ≡ false → int_breaks p ≡ []
+    ensures limits { (t : Tables) (p : Package) → has_int_mode t p ≡ false
         → limit_breaks_by_modes t p ≡ limit_breaks p }
 {}
 

@@ -3,6 +3,7 @@ ghost use Rattle.std.specs.Prelude.{◌≡◌, ℕ, List, Some, [], false, map, 
 ghost use Rattle.std.specs.List.{Contains};
 ghost use Rattle.cjc_check_proof.specs.LowerCapWrite.Size.{info_of};
 ghost use Rattle.cjc_check_proof.specs.CheckRules.Codes.{whole_spots};
+ghost use Rattle.cjc_check_proof.specs.CheckRules.Consistent.{Consistent};
 ghost use Rattle.cjc_check_proof.specs.CheckRules.Handlers.{handler_spots, stop_spots};
 ghost use Rattle.cjc_check_proof.specs.CheckRules.Instructions.{index_spots, jump_spots};
 ghost use Rattle.cjc_check_proof.specs.CheckRules.Locations.{location_spots};
@@ -18,6 +19,7 @@ ghost use Rattle.cjc_check_proof.specs.Types.Tables.{IsMethodOf};
 ghost use Rattle.cjc_int_narrow.specs.ClassFile.Code.{CodeTree};
 ghost use Rattle.cjc_int_narrow.specs.ClassFile.declared.tree.ClassTree.{ClassTree};
 ghost use Rattle.cjc_int_narrow.specs.ClassFile.declared.tree.MethodTree.{MethodTree};
+ghost use Rattle.cjc_check_proof.specs.LowerExportFile.declared.tree.ExportTree.{ExportTree};
 ghost use Rattle.cjc_int_narrow.specs.World.Files.{Files};
 ghost use Rattle.cjc_int_narrow.specs.World.Order.{class_order};
 ghost use Rattle.cjc_check_proof.specs.TokenProof.Components.Methods.{HasMethods};
@@ -77,6 +79,13 @@ pub fn modes_are_short_without_int()
 pub fn directory_has_sizes_by_modes()
     ensures { (t : Tables) (p : Package) → let c = components_by_modes t p in let d = c.directory in d.component_sizes
         ≡ map (λ tag. length (info_of c tag)) tags }
+{}
+
+/// The components of a package by modes are consistent with export files where those without modes are: no sentence on
+/// components reads whether ACC_INT is set.
+pub fn components_by_modes_are_consistent()
+    ensures { (t : Tables) (p : Package) (exports : List ExportTree) → Consistent (components_of p) exports
+        → Consistent (components_by_modes t p) exports }
 {}
 
 /// The code of a package by the modes of its methods is consistent, where no two of its classes have one name and its

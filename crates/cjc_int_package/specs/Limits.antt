@@ -15,10 +15,9 @@ use Rattle.cjc_components.specs.LowerNarrow.Rows.Package.{flags_of, read_of}
 use Rattle.cjc_components.specs.LowerNarrow.Rows.Resolved.{method_found}
 use Rattle.cjc_components.specs.Descriptor.{method_in}
 use Rattle.cjc_components.specs.Limits.{else_of, form_breaks, has_many_words, method_spot, of_methods}
-use Rattle.cjc_components.specs.Limits.{size_breaks, spot_of_list}
+use Rattle.cjc_components.specs.Limits.{size_breaks}
 use Rattle.cjc_components.specs.Package.{LaidMethod, Package, world}
 use Rattle.cjc_int_mode.specs.Written.{argument_words, local_words, stack_words}
-use Rattle.cjc_int_package.specs.Components.{has_int_mode}
 use Rattle.cjc_int_package.specs.Modes.{Tables, is_int}
 
 -- ---- 417
@@ -53,20 +52,10 @@ abbrev pub word_breaks_by_modes : Tables → Package → Class → LaidMethod �
 word_breaks_by_modes t p c m = let f = m.member in let member = method_in (world p) c f.member in
     at (has_many_words member || lacks_int_room t p.files (method_at p.files f)) (method_spot p c f member 0) 417
 
--- ---- 801
-
--- 801: a method with code is in int mode
-abbrev pub int_breaks_by_modes : Tables → Package → List Break
-int_breaks_by_modes t p = at (has_int_mode t p) (spot_of_list p) 801
-
 -- ---- the whole
 
--- 801, or 311, 414 and 415
-abbrev pub code_breaks_by_modes : Tables → Package → List Break
-code_breaks_by_modes t p = else_of (int_breaks_by_modes t p) (form_breaks p)
-
--- All that is broken of 311, 411, 414 to 417 and 801. Header has as many bytes whatever its flags are, so 416 is that
+-- All that is broken of 311, 411 and 414 to 417. Header has as many bytes whatever its flags are, so 416 is that
 -- of a package without modes.
 abbrev pub limit_breaks_by_modes : Tables → Package → List Break
 limit_breaks_by_modes t p =
-    else_of (of_methods p (word_breaks_by_modes t p)) (else_of (code_breaks_by_modes t p) (size_breaks p))
+    else_of (of_methods p (word_breaks_by_modes t p)) (else_of (form_breaks p) (size_breaks p))

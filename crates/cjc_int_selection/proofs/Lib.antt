@@ -5,3 +5,4 @@ pub mod Said
 pub mod Operands
 pub mod Constants
 pub mod Selectable
+pub mod Emitted

@@ -10,9 +10,9 @@ use Rattle.cjc_pool.specs.CapWrite.Descriptor.{types_bytes}
 use Rattle.cjc_components.specs.Package.{Package, pool}
 use Rattle.cjc_components.specs.Components.{components_of}
 use Rattle.cjc_components.specs.Descriptor.{descriptor}
-use Rattle.cjc_components.specs.Limits.{code_breaks, else_of, form_breaks, has_far_types, has_large_component}
-use Rattle.cjc_components.specs.Limits.{has_many_entries, int_breaks, layout_breaks, limit_breaks, of_methods}
-use Rattle.cjc_components.specs.Limits.{size_breaks, spot_of_list, widest_method, word_breaks}
+use Rattle.cjc_components.specs.Limits.{else_of, form_breaks, has_far_types, has_large_component}
+use Rattle.cjc_components.specs.Limits.{has_many_entries, layout_breaks, of_methods, size_breaks, spot_of_list}
+use Rattle.cjc_components.specs.Limits.{widest_method}
 
 front_off : (a b : Bool) (s : RulePlace) (m n : ℕ) → at a s m ++ at b s n ≡ [] → a ≡ false
 front_off true b s m n e = cc
@@ -42,16 +42,12 @@ behind_off [] true s n e = cc
 behind_off [] false s n e = refl
 behind_off (x ∷ a) b s n e = cc
 
-module _ (p : Package) (none : limit_breaks p ≡ []) where
-  codes_kept : else_of (code_breaks p) (size_breaks p) ≡ []
-  codes_kept = after_first (of_methods p (word_breaks p)) (else_of (code_breaks p) (size_breaks p)) none
-
+module _ (p : Package) (none : else_of (form_breaks p) (size_breaks p) ≡ []) where
   pub sizes_kept : size_breaks p ≡ []
-  sizes_kept = after_first (code_breaks p) (size_breaks p) codes_kept
+  sizes_kept = after_first (form_breaks p) (size_breaks p) none
 
   forms_kept : form_breaks p ≡ []
-  forms_kept = after_first (int_breaks p) (form_breaks p)
-      (before_second (code_breaks p) (size_breaks p) codes_kept)
+  forms_kept = before_second (form_breaks p) (size_breaks p) none
 
   many_off : has_many_entries p ≡ false
   many_off = behind_off (of_methods p (layout_breaks p)) (has_many_entries p) (spot_of_list p) 414 forms_kept

@@ -19,7 +19,7 @@ use Rattle.cjc_components.specs.Package.{LaidMethod, Package, world}
 use Rattle.cjc_components.specs.Class.{fields_of, interfaces_of}
 use Rattle.cjc_components.specs.Descriptor.{fields_from}
 use Rattle.cjc_components.specs.Exports.{exported_classes, open_methods}
-use Rattle.cjc_components.specs.Limits.{limit_breaks}
+use Rattle.cjc_components.specs.Limits.{else_of, form_breaks, size_breaks}
 use Rattle.cjc_components.specs.Methods.{handler_count}
 use Rattle.cjc_components.specs.Statics.{cell_order}
 
@@ -78,7 +78,7 @@ pub record IsLimited (p : Package) : Type 0 where
   pub exported : (k : ℕ) (c : Class) → slice_get (exported_classes p) k ≡ Some c → ExportsFew p c
   -- 407
   pub few_handlers : sum_by handler_count p.methods ≤ 255
-  -- 411, 414 and 416
-  pub limits : limit_breaks p ≡ []
+  -- 311, 411 and 414 to 416
+  pub limits : else_of (form_breaks p) (size_breaks p) ≡ []
   pub methods : (k : ℕ) (m : LaidMethod) → slice_get p.methods k ≡ Some m → MethodIsShort m
   pub cells : CellsAreDescribed p

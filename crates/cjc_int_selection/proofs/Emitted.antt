@@ -1,0 +1,178 @@
+-- What is written in int mode for a method of a package that breaks no rule can be said by bytes, and calls what the
+-- method calls.
+use Rattle.std.proofs.Common.{◌≡◌, ℕ, zero, suc, ◌+◌, ◌*◌, ◌≤◌, arith, refl, sym, ap, subst, ◌∙◌, true, List, []}
+use Rattle.std.proofs.Common.{◌∷◌, length}
+use Rattle.std.specs.Prelude.{Option, Some, None, slice_get, sum_by, ℤ}
+use Rattle.std.proofs.lemmas.List.Sums.{sum_by-cons}
+use Rattle.cjc_int_narrow.specs.Bytes.declared.fault.MemberId.{MemberId}
+use Rattle.cjc_int_narrow.specs.Bytecode.declared.insn.JInsn.{JInsn}
+use Rattle.cjc_int_narrow.specs.Bytecode.declared.insn.JOp.{JOp}
+use Rattle.cjc_int_narrow.specs.Bytecode.declared.insn.JOp.TheVariants as jop
+use Rattle.cjc_int_narrow.specs.Bytecode.declared.method_code.MethodCode.{MethodCode}
+use Rattle.cjc_int_narrow.specs.ClassFile.Code.{CodeTree}
+use Rattle.cjc_int_narrow.specs.ClassFile.declared.tree.ClassTree.{ClassTree}
+use Rattle.cjc_int_narrow.specs.ClassFile.declared.tree.MethodTree.{MethodTree}
+use Rattle.cjc_int_narrow.specs.LowerIntMode.Room.{IsRoom, many_words}
+use Rattle.cjc_int_narrow.specs.LowerIntMode.Written.{argument_words, int_frame, local_words, places_from, reached_from}
+use Rattle.cjc_int_narrow.specs.LowerIntMode.Written.{written_in_int_mode}
+use Rattle.cjc_int_narrow.specs.LowerIntMode.declared.modes.Mode.TheVariants as modes
+use Rattle.cjc_int_narrow.specs.LowerIntProof.Operands.{IsInt, OperandsFit}
+use Rattle.cjc_int_narrow.specs.LowerNarrow.Rows.Resolved.{resolution}
+use Rattle.cjc_int_narrow.specs.LowerNarrow.Rows.Selected.{near_fields}
+use Rattle.cjc_int_narrow.specs.Select.{IsSelectable, OperandsStand}
+use Rattle.cjc_int_narrow.specs.World.Classes.{all_classes}
+use Rattle.cjc_int_narrow.specs.World.Files.{Files}
+use Rattle.cjc_int_narrow.proofs.Whole.{few_enough}
+use Rattle.cjc_intervals.specs.Frames.{RangeState}
+use Rattle.cjc_ncode.specs.IntCode.IntCode.{Frame, Reached, nargs, widest}
+use Rattle.cjc_ncode.specs.Lowering.Naming.{Naming}
+use Rattle.cjc_ncode.specs.Written.{Resolution}
+use Rattle.cjc_ncode.specs.declared.narrow.NInsn.{NInsn}
+use Rattle.cjc_ncode.specs.declared.narrow.NInsn.TheVariants as insns
+use Rattle.cjc_ncode.specs.declared.narrow.NMethod.{NMethod}
+use Rattle.cjc_ncode.specs.declared.narrow.PoolKey.{PoolKey}
+use Rattle.cjc_emit.specs.Said.{CanBeSaid}
+use Rattle.cjc_narrow_proof.proofs.SelectedLaws.Calls.{called_from}
+use Rattle.cjc_narrow_proof.specs.Selected.Keeps.{IsSpelt}
+use Rattle.cjc_narrow_proof.specs.Selected.Operands.{IsSmall, NumbersFit}
+use Rattle.cjc_types.specs.Fixpoint.Tables.{HasRow}
+use Rattle.cjc_types.specs.Flow.{Body, body_of}
+use Rattle.cjc_types.specs.Tables.{Breach, IsLeastTable, IsMethodOf}
+use Rattle.cjc_types.specs.declared.state.State.{State}
+use Rattle.cjc_int_selection.specs.Names.{NamesAs, NamesAsOneOf, WordsFit, as_one, no_name, nothing, outside}
+use Rattle.cjc_int_selection.specs.Names.{static_field}
+use Rattle.cjc_int_selection.proofs.Lone.{alone, lone, lone_written}
+use Rattle.cjc_int_selection.proofs.Naming.{all_named}
+use Rattle.cjc_int_selection.proofs.Numbers.{int_numbers_fit}
+use Rattle.cjc_int_selection.proofs.Operands.{int_operands_fit}
+use Rattle.cjc_int_selection.proofs.Said.{int_code_said}
+use Rattle.cjc_int_selection.proofs.Selectable.{int_selectable}
+
+-- ---- reached instructions
+
+-- a reached instruction is one of the method's that has a row
+reached_row : (ranges : List (Option RangeState)) (place : ℕ) (insns : List JInsn) (types : List (Option State))
+    (k : ℕ) (i : Reached) → slice_get (reached_from ranges place insns types) k ≡ Some i → (j : ℕ) × (x : State)
+    × (slice_get insns j ≡ Some i.insn) × HasRow types j x
+reached_row ranges place [] types k i e = absurd cc
+reached_row ranges place (n ∷ insns) [] k i e = absurd cc
+reached_row ranges place (n ∷ insns) (None ∷ types) k i e =
+    let r = reached_row ranges (place + 1) insns types k i e in (suc r.0, r.1, r.2, r.3)
+reached_row ranges place (n ∷ insns) (Some t ∷ types) zero i e =
+    (0, t, ap reached_is e, refl)
+  where
+    reached_is : Option Reached → Option JInsn
+    reached_is None = None
+    reached_is (Some r) = Some r.insn
+reached_row ranges place (n ∷ insns) (Some t ∷ types) (suc k) i e =
+    let r = reached_row ranges (place + 1) insns types k i e in (suc r.0, r.1, r.2, r.3)
+
+-- one is no more than the sum
+one_below : (r : Resolution) (reached : List Reached) (k : ℕ) (i : Reached) → slice_get reached k ≡ Some i
+    → widest r (let n = i.insn in n.op) ≤ sum_by (λ (j : Reached). let n = j.insn in widest r n.op) reached
+one_below r [] k i e = absurd cc
+one_below r (j ∷ reached) zero i e =
+    let same : j ≡ i = cc in
+    let here : widest r (let n = j.insn in n.op) ≡ widest r (let n = i.insn in n.op) =
+    ap (λ (x : Reached). let n = x.insn in widest r n.op) same in
+    let all = sum_by-cons (λ (x : Reached). let n = x.insn in widest r n.op) j reached in
+    omega (arith, here, all)
+one_below r (j ∷ reached) (suc k) i e =
+    let rest = one_below r reached k i e in
+    let all = sum_by-cons (λ (x : Reached). let n = x.insn in widest r n.op) j reached in
+    omega (arith, rest, all)
+
+-- one byte says the words of what is called
+words_by : (max_locals : ℕ) (op : JOp) → OperandsStand max_locals op → WordsFit op
+words_by max_locals (jop.Call op m) h = h
+words_by max_locals _ h = tt
+
+-- ---- a method
+
+module _ (files : Files) (code : MethodCode) (class : ClassTree) (method : MethodTree) (tree : CodeTree)
+    (is : IsMethodOf files code class method tree) (bytes : List ℕ) (spelt : IsSpelt class bytes)
+    (rows : List (Option State)) (least : IsLeastTable (body_of class method tree code.insns) rows)
+    (typed : (place rule : ℕ) → Breach (all_classes files) (body_of class method tree code.insns) rows place rule → ⊥)
+    (room : IsRoom (body_of class method tree code.insns) rows modes.Int true) (ks : List PoolKey)
+    (constants : (g : MemberId) (z : ℤ) → (resolution files (near_fields ks) class.name).constant g ≡ Some z → IsInt z)
+    (ranges : List (Option RangeState)) where
+  abbrev b : Body
+  b = body_of class method tree code.insns
+
+  abbrev f : Frame
+  f = int_frame b
+
+  abbrev r : Resolution
+  r = resolution files (near_fields ks) class.name
+
+  abbrev kept : List Reached
+  kept = reached_from ranges 0 code.insns rows
+
+  abbrev places : List ℕ
+  places = places_from 0 code.insns rows
+
+  abbrev narrow : NMethod
+  narrow = written_in_int_mode r tree b rows ranges
+
+  able : IsSelectable b rows
+  able = int_selectable files code class method tree is bytes spelt rows least typed room
+
+  words_fit : (k : ℕ) (i : Reached) → slice_get kept k ≡ Some i → WordsFit (let n = i.insn in n.op)
+  words_fit k i e =
+      let at = reached_row ranges 0 code.insns rows k i e in
+      words_by tree.max_locals (let n = i.insn in n.op) (able.stand at.0 i.insn at.1 at.2 at.3)
+
+  few_locals : nargs f + 2 * length f.params ≤ 256
+  few_locals =
+      let all : argument_words b + local_words b rows ≤ 255 = few_enough (argument_words b + local_words b rows)
+      (λ more. room (many_words more)) in
+      let own : length f.params ≤ tree.max_locals = able.arguments in
+      omega (arith, all, own)
+
+  operands : narrow.widest ≤ 32767 → (k : ℕ) (i : Reached) → slice_get kept k ≡ Some i
+      → OperandsFit f r (let n = i.insn in n.op)
+  operands few k i e =
+      let at = reached_row ranges 0 code.insns rows k i e in
+      let one = one_below r kept k i e in
+      let sum : narrow.widest ≡ 5 * length f.params + sum_by (λ (j : Reached). let n = j.insn in widest r n.op) kept =
+      refl in
+      int_operands_fit files code class method tree is bytes spelt rows room r constants at.0 i.insn at.1 at.2 at.3
+      (omega (arith, one, sum, few))
+
+  -- its words of arguments and locals, and its own widest size, are few
+  pub int_said : (low n : Naming) → IsSmall low ks → narrow.widest ≤ 32767
+      → ((k : ℕ) (i : NInsn) → slice_get narrow.insns k ≡ Some i → NumbersFit low i → NumbersFit n i)
+      → (k : ℕ) (i : NInsn) → slice_get narrow.insns k ≡ Some i → CanBeSaid n i
+  int_said low n small few stay k i e =
+      int_code_said n r f tree kept places few_locals (operands few) k i e
+      (stay k i e (int_numbers_fit low ks small files class.name f tree kept places words_fit k i e))
+
+  -- ---- a call of an interface's method
+
+  -- the instruction of the class file for which it is written
+  abbrev pub IsCalled : MemberId → Type 0
+  IsCalled id = (j : ℕ) × (i : JInsn) × (m : MemberId) × (slice_get code.insns j ≡ Some i) × (i.op ≡ jop.Call 0xB9 m)
+      × (id ≡ r.interface m)
+
+  pub int_called : (k nargs : ℕ) (id : MemberId) → slice_get narrow.insns k ≡ Some (insns.Interface nargs id)
+      → IsCalled id
+  int_called k words id e = by (all_named r f tree kept places k (insns.Interface words id) e)
+    where
+      at : (i : Reached) (j : ℕ) → slice_get kept j ≡ Some i
+          → NamesAs r (let n = i.insn in n.op) (insns.Interface words id) → IsCalled id
+      at i j there (nothing e) = absurd cc
+      at i j there (static_field put g op free is) = absurd cc
+      at i j there (outside has l h) =
+          let row = reached_row ranges 0 code.insns rows j i there in
+          let op = (let n = i.insn in n.op) in
+          let c = called_from (record r { role = alone }) (λ o. 0) (lone op ∷ []) l words id
+          (ap (λ xs. slice_get xs l) (lone_written r (λ o. 0) op) ∙ h) in
+          (row.0, i.insn, c.2, row.2, lone_op op c.0 c.1 c.3 ∙ c.4, c.5)
+        where
+          lone_op : (o : JOp) (q : ℕ) (x : JInsn) → slice_get (lone o ∷ []) q ≡ Some x → o ≡ x.op
+          lone_op o zero x e = let same : lone o ≡ x = cc in ap (λ (y : JInsn). y.op) same
+          lone_op o (suc q) x e = absurd cc
+
+      by : NamesAsOneOf r kept (insns.Interface words id) → IsCalled id
+      by (no_name e) = absurd cc
+      by (as_one j i there h) = at i j there h
