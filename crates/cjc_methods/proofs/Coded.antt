@@ -29,7 +29,7 @@ use Rattle.cjc_int_mode.specs.declared.modes.Mode.{Mode}
 use Rattle.cjc_int_mode.specs.declared.modes.Mode.TheVariants as modes
 use Rattle.cjc_int_package.specs.Modes.{Tables}
 use Rattle.cjc_int_package.specs.Written.{code_by_mode, code_by_mode_at, code_in, int_code_of}
-use Rattle.cjc_methods.specs.Ready.{AreReady, AreRows, AreTold, states}
+use Rattle.cjc_methods.specs.Ready.{AreReady, AreTold, states}
 use Rattle.cjc_methods.specs.Working.ByMode.{selected_by}
 use Rattle.cjc_methods.specs.Working.Places.{HasNone, HasPlace}
 use Rattle.cjc_methods.proofs.Owned.{own_method}
@@ -80,24 +80,6 @@ module _ (files : Files) (near : List MemberId) (rows : Method → List (Option 
       ∙ by_rows_there (with_pairs r b (has_rows table_rows)) tree n code.insns table_rows
       ∙ ap (λ hs. narrow_method (with_pairs r b hs) tree n code.insns (rows_by (has_rows table_rows)))
       (sym (has_rows_by (has_rows table_rows)))
-
-  pub with_code : (codes : List MethodCode) (types : List TypeTable) → AreReady files codes types
-      → AreRows files codes types rows → (f : Found) (t : ClassTree) (k : ℕ) → f.imported ≡ false
-      → slice_get files.classes f.class ≡ Some t
-      → (h : HasPlace files codes f.class (f.member - length t.fields) k) → (table : TypeTable)
-      → slice_get types k ≡ Some table
-      → code_at files near rows f ≡ selected_code files near h.class h.method h.tree h.code.insns
-      (rows_by (has_rows (states h.code h.class h.method h.tree table)))
-  with_code codes types ready are f t k own is h table is_table =
-      let same : h.class ≡ t = (let p = sym h.is_class ∙ is in cc) in
-      let there : slice_get h.class.methods (f.member - length h.class.fields) ≡ Some h.method =
-      ap (λ (x : ClassTree). slice_get h.class.methods (f.member - length x.fields)) same ∙ h.is_method in
-      ap (code_by files near rows f) (found_at files f h.class (Some h.method) own h.is_class there
-      ∙ ap (λ o. Some (method_by h.class h.method o)) h.is_tree)
-      ∙ selected_for h.code h.class h.method h.tree table (ready.found f.class (f.member - length t.fields) h.class
-      h.method h.is_class h.is_method)
-      (insns_are files h.code h.class h.method h.tree h.is_own) (are k h.code table h.is_code is_table h.class h.method
-      h.tree h.is_own)
 
   -- ---- one without
 

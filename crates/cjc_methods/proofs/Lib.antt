@@ -11,7 +11,6 @@ pub mod Again
 pub mod Ownership
 mod Spotted
 pub mod Alike
-pub mod ByRows
 pub mod Rooms
 mod Laid
 pub mod LayoutsLaws
@@ -35,3 +34,5 @@ pub use Rattle.cjc_check.proofs.JumpsLaws.Apart as CheckApart
 pub use Rattle.cjc_check.proofs.JumpsLaws.Lands as CheckLands
 pub use Rattle.cjc_components.proofs.LayoutPlaces as LayoutPlaces
 pub use Rattle.cjc_pool.proofs.PoolLaws.Keys as PoolKeys
+pub use Rattle.cjc_int_package.proofs.ByModes as IntByModes
+pub use Rattle.cjc_int_package.proofs.Room as IntRoom

@@ -1,5 +1,5 @@
--- Rule 417 by modes at a member of a class of the package: it is the same by whatever is told of the methods that was
--- found, and no member is in int mode whose method is not.
+-- Rule 417 by modes at a member of a class of the package, and whether that is in int mode: both are the same by
+-- whatever is told of the methods that was found, and no member is in int mode whose method is not.
 use Rattle.std.proofs.Common.{◌≡◌, ℕ, refl, sym, ap, ◌∙◌, false, List, length}
 use Rattle.std.specs.Prelude.{slice_get, ◌&&◌, Option, Some, None}
 use Rattle.cjc_world.specs.ClassFile.Code.{CodeTree}
@@ -47,6 +47,20 @@ module _ (files : Files) (codes : List MethodCode) (types : List TypeTable) (mod
         (λ none.
         lacks_without_code files codes types modes_of ready t told f own.own class is none
         ∙ sym (lacks_without_code files codes types modes_of ready u these f own.own class is none))
+
+    pub modes_alike : (t u : Tables) → AreTold files codes types modes_of t → AreTold files codes types modes_of u
+        → is_in_int_mode t (method_at files f) ≡ is_in_int_mode u (method_at files f)
+    modes_alike t u told these =
+        let class = class_of files f own in
+        let is = (tree_at files f own).1 in
+        by_place files codes types modes_of ready sized f own
+        (is_in_int_mode t (method_at files f) ≡ is_in_int_mode u (method_at files f))
+        (λ k h table e mode g.
+        in_int_mode_with_code files codes types modes_of ready t told f own.own class is k h mode g
+        ∙ sym (in_int_mode_with_code files codes types modes_of ready u these f own.own class is k h mode g))
+        (λ none.
+        in_int_mode_without_code files codes types modes_of ready t told f own.own class is none
+        ∙ sym (in_int_mode_without_code files codes types modes_of ready u these f own.own class is none))
 
     -- where no code is in int mode
     pub not_in_int_mode : (t : Tables) → AreTold files codes types modes_of t

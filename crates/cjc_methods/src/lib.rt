@@ -24,11 +24,6 @@ pub mod class_order {
     pub use cjc_components::class_order::classes;
 }
 
-/// What crates above take of subset.
-pub mod subset {
-    pub use cjc_components::subset::any_works_on_int;
-}
-
 /// What crates above take of tokens.
 pub mod tokens {
     pub use cjc_components::tokens::Tokens;

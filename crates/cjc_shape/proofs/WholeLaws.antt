@@ -1,7 +1,10 @@
 pub mod Ordered
 pub mod Drafts
 pub mod Modes
+pub mod Codes
+pub mod Short
 pub mod Second
 pub mod Ints
 pub mod One
 pub mod Shapes
+pub mod OneMode

@@ -7,6 +7,7 @@ pub use Rattle.cjc_bytes.proofs.Gets as BytesGets
 pub use Rattle.cjc_vtable.proofs.Filed as VTableFiled
 pub use Rattle.cjc_vtable.proofs.Numbers as VTableNumbers
 pub use Rattle.cjc_shape.proofs.FlowFirst as FlowFirst
+pub use Rattle.cjc_shape.proofs.IntByModes as IntByModes
 pub use Rattle.cjc_check_proof.proofs.PoolEntries as PoolEntries
 pub use Rattle.cjc_check_proof.proofs.PoolKeys as PoolKeys
 pub use Rattle.cjc_shape.proofs.ExportedOwn as ExportedOwn
@@ -22,8 +23,11 @@ pub use Rattle.cjc_shape.proofs.JudgedLaws.Selected as ShapeSelected
 pub use Rattle.cjc_shape.proofs.JudgedLaws.Tokens as ShapeTokens
 pub use Rattle.cjc_shape.proofs.PreparedLaws.Limited as ShapeLimited
 pub use Rattle.cjc_shape.proofs.PreparedLaws.Sound as ShapeSound
+pub use Rattle.cjc_shape.proofs.WholeLaws.Codes as ShapeCodes
 pub use Rattle.cjc_shape.proofs.WholeLaws.Drafts as ShapeDrafts
 pub use Rattle.cjc_shape.proofs.WholeLaws.Ints as ShapeInts
 pub use Rattle.cjc_shape.proofs.WholeLaws.Modes as ShapeModes
 pub use Rattle.cjc_shape.proofs.WholeLaws.One as ShapeOne
+pub use Rattle.cjc_shape.proofs.WholeLaws.OneMode as ShapeOneMode
 pub use Rattle.cjc_shape.proofs.WholeLaws.Second as ShapeSecond
+pub use Rattle.cjc_shape.proofs.WholeLaws.Short as ShapeShort

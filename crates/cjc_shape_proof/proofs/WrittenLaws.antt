@@ -1,7 +1,6 @@
 pub mod PackageNames
 pub mod Places
 pub mod Lines
-pub mod Insns
 pub mod Checked
 pub mod Coded
 pub mod Sources

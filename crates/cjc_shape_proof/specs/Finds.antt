@@ -108,10 +108,11 @@ pub record IsFieldFound (files : Files) (l : Named) (id : MemberId) (cell : Cell
 
 -- ---- static fields
 
--- A static field that code names is a constant of 32 bits, which putstatic does not name, or one of the package's static
--- cells.
+-- A static field that code names is a constant of 32 bits, which putstatic does not name, or one of the package's
+-- static cells.
 pub data IsStaticFieldFound (files : Files) (image : StaticImage) (put : Bool) (id : MemberId) : Type 0 where
-  finds_constant : (z : ℤ) → put ≡ false → IsUsable false id.desc → result_of (parts id.desc).result ≡ Number ∷ [] → Holds full z
+  finds_constant : (z : ℤ) → put ≡ false → IsUsable false id.desc → result_of (parts id.desc).result ≡ Number ∷ []
+      → Holds full z
       → field_named files (all_classes files) id ≡ Some (Constant z) → IsStaticFieldFound files image put id
   finds_cell : (target : MemberId) → IsUsable false id.desc
       → field_named files (all_classes files) id ≡ Some (Static target)

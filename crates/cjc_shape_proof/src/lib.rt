@@ -4,7 +4,7 @@
 // Lower crates, for those above.
 /// What crates above take of cjc_bytes.
 pub mod bytes {
-    pub use cjc_bytes::{Bytes, Fault, NoMemory, Row, answer};
+    pub use cjc_bytes::{Bytes, Fault, NoMemory, Row, RulePlace, answer, broken};
 }
 
 /// What crates above take of cjc_check_proof.

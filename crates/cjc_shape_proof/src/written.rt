@@ -50,10 +50,10 @@ use cjc_check_proof::token_proof::written_calls::{
     calls_reach, calls_take_objects_alike, entries_are_called, methods_stand, sent_methods_stand,
 };
 use cjc_components::layout::order_changes_no_search;
-use cjc_narrow_proof::intervals::range_laws::least_ranges_exist;
 use cjc_narrow_proof::ncode::lowering::runs_agree;
 use cjc_shape::judged::pooled_methods_are_emittable;
 use cjc_shape::methods::methods_can_be_laid_out;
+use cjc_shape::whole::packages_in_short_mode_are_as_before;
 use cjc_vtable::package_laws;
 pub use fitting_laws::{
     export_files_fit, exported_classes_stand, interfaces_and_applets_fit, laid_out_packages_fit,
@@ -126,10 +126,10 @@ pub fn converted_methods_are_consistent()
 {
     classes_keep_rules();
     converted_methods_are_emittable();
-    least_ranges_exist();
     methods_can_be_laid_out();
     made_methods_are_consistent();
     packages_have_their_methods();
+    packages_in_short_mode_are_as_before();
     written_methods_are_made();
 }
 
@@ -139,8 +139,8 @@ pub fn converted_methods_are_ready()
         → IsConverted list files judged p → NamesAreThere p → AreReady p }
 {
     converted_methods_are_emittable();
-    least_ranges_exist();
     methods_can_be_laid_out();
+    packages_in_short_mode_are_as_before();
     pooled_methods_are_emittable();
 }
 
@@ -185,8 +185,8 @@ pub fn converted_packages_are_runnable()
 {
     checked_packages_are_runnable();
     converted_methods_are_ready();
-    least_ranges_exist();
     methods_can_be_laid_out();
+    packages_in_short_mode_are_as_before();
 }
 
 /// So the components of a converted package, run by token, give the report of its narrow code, where what is asked of

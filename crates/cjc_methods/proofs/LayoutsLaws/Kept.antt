@@ -1,27 +1,27 @@
 -- Methods that are kept with their layouts.
 use Rattle.std.proofs.Common.{◌≡◌, ℕ, zero, suc, ◌≤◌, refl, sym, ap, subst, ◌∙◌, arith, List, [], ◌∷◌, ◌++◌, length}
-use Rattle.std.specs.Prelude.{map, slice_get, option_map, Option, Some}
+use Rattle.std.specs.Prelude.{map, slice_get, option_map, Some}
 use Rattle.std.proofs.lemmas.Option.{slice_get-map}
 use Rattle.cjc_components.specs.Bytecode.declared.method_code.MethodCode.{MethodCode}
 use Rattle.cjc_pool.specs.List.Listed.{ListTree}
-use Rattle.cjc_narrow.specs.Types.declared.state.State.{State}
 use Rattle.cjc_world.specs.declared.found.Found.{Found}
 use Rattle.cjc_world.specs.declared.image.StaticImage.{StaticImage}
 use Rattle.cjc_world.specs.Classes.{all_classes}
 use Rattle.cjc_world.specs.Files.{Files}
 use Rattle.cjc_world.specs.Order.{method_order}
-use Rattle.cjc_pool.specs.JvmSemantics.Linked.{Method}
 use Rattle.cjc_pool.specs.Clinit.Image.{IsImage}
 use Rattle.cjc_pool.specs.NCode.declared.narrow.NMethod.{NMethod}
 use Rattle.cjc_pool.specs.NCode.PoolOrder.{pool_order}
 use Rattle.cjc_narrow.specs.Rows.Selected.{near_fields}
 use Rattle.cjc_pool.specs.Layout.Layouts.{IsLayout}
 use Rattle.cjc_components.specs.Package.{LaidMethod, Package}
-use Rattle.cjc_components.specs.Written.{IsPackage, IsWritten, code_at, is_abstract_at}
+use Rattle.cjc_components.specs.Written.{is_abstract_at}
+use Rattle.cjc_int_package.specs.Modes.{Tables}
+use Rattle.cjc_int_package.specs.Written.{IsPackageByModes, IsWrittenByMode, code_by_mode_at}
 use Rattle.cjc_methods.specs.declared.layouts.laid.Laid.{Laid}
 use Rattle.cjc_methods.specs.declared.layouts.laid.Methods.{Methods}
 use Rattle.cjc_methods.specs.Layouts.Laid.{AreOf, laid_method, laid_methods, with_layouts}
-use Rattle.cjc_methods.specs.Layouts.Working.Tries.{AreAll, IsFine, IsLaid, IsPut}
+use Rattle.cjc_methods.specs.Layouts.Working.Tries.{AreAll, IsLaid}
 use Rattle.cjc_methods.specs.Layouts.Working.Tries as tries
 
 -- ---- codes with layouts
@@ -82,13 +82,21 @@ same_at f g xs ys k x y e p q =
     ∙ ap (option_map g) q in
     let i : Some (f x) ≡ Some (g y) = h in cc
 
--- ---- a package
+map_twice : {B : Type 0} (f : Found → B) (ls : List Laid) → map f (map (λ (y : Laid). y.member) ls)
+    ≡ map (λ (y : Laid). f y.member) ls
+map_twice f [] = refl
+map_twice f (y ∷ ls) = ap (λ xs. f y.member ∷ xs) (map_twice f ls)
+
+map_same : (cs : List NMethod) → map (λ (c : NMethod). c) cs ≡ cs
+map_same [] = refl
+map_same (c ∷ cs) = ap (λ xs. c ∷ xs) (map_same cs)
+
+-- ---- a package by modes
 
 module _ (list : ListTree) (files : Files) (insns : List MethodCode) (image : StaticImage) (is_image : IsImage files
-    insns image) (rows : Method → List (Option State)) (members : List Found)
-    (is_members : members ≡ method_order (all_classes files)) (narrow : List NMethod) (is_narrow : narrow
-    ≡ map (code_at files (near_fields (pool_order narrow)) rows) members)
-    (m : Methods) (of : AreOf files members narrow m) where
+    insns image) (t : Tables) (members : List Found) (is_members : members ≡ method_order (all_classes files))
+    (narrow : List NMethod) (is_narrow : narrow ≡ map (code_by_mode_at files (near_fields (pool_order narrow)) t)
+    members) (m : Methods) (of : AreOf files members narrow m) where
   abbrev p : Package
   p = record { list = list; files = files; image = image; methods = laid_methods m }
 
@@ -96,7 +104,7 @@ module _ (list : ListTree) (files : Files) (insns : List MethodCode) (image : St
   own_codes = codes_of m.codes m.laid of.laid.count ∙ of.by_codes
 
   written : (k : ℕ) (x : LaidMethod) → slice_get (laid_methods m) k ≡ Some x
-      → IsWritten files (near_fields (pool_order narrow)) rows x
+      → IsWrittenByMode files (near_fields (pool_order narrow)) t x
   written k x e =
       let h = at_place m.codes m.laid k x e in
       let l = h.laid in
@@ -105,33 +113,25 @@ module _ (list : ListTree) (files : Files) (insns : List MethodCode) (image : St
       (of.by_kinds ∙ ap (map (is_abstract_at files)) (sym of.by_members) ∙ map_twice (is_abstract_at files) m.laid)
       h.is_laid h.is_laid in
       let near = near_fields (pool_order narrow) in
-      let codes_are : map (λ (c : NMethod). c) m.codes ≡ map (λ (y : Laid). code_at files near rows y.member) m.laid =
-      map_same m.codes ∙ of.by_codes ∙ is_narrow ∙ ap (map (code_at files near rows)) (sym of.by_members)
-      ∙ map_twice (code_at files near rows) m.laid in
-      let code : h.code ≡ code_at files near rows l.member = same_at (λ (c : NMethod). c) (λ (y : Laid). code_at files
-      near rows y.member) m.codes m.laid k h.code l codes_are h.is_code h.is_laid in
-      subst (IsWritten files near rows) (sym h.is) (record {
+      let codes_are : map (λ (c : NMethod). c) m.codes ≡ map (λ (y : Laid). code_by_mode_at files near t y.member)
+      m.laid =
+      map_same m.codes ∙ of.by_codes ∙ is_narrow ∙ ap (map (code_by_mode_at files near t)) (sym of.by_members)
+      ∙ map_twice (code_by_mode_at files near t) m.laid in
+      let code : h.code ≡ code_by_mode_at files near t l.member = same_at (λ (c : NMethod). c)
+      (λ (y : Laid). code_by_mode_at files near t y.member) m.codes m.laid k h.code l codes_are h.is_code h.is_laid in
+      subst (IsWrittenByMode files near t) (sym h.is) (record {
         is_abstract = kind;
         code = code;
         wide = (of.laid.each k h.code l h.is_code h.is_laid).wide;
       })
-    where
-      map_twice : {B : Type 0} (f : Found → B) (ls : List Laid) → map f (map (λ (y : Laid). y.member) ls)
-          ≡ map (λ (y : Laid). f y.member) ls
-      map_twice f [] = refl
-      map_twice f (y ∷ ls) = ap (λ xs. f y.member ∷ xs) (map_twice f ls)
 
-      map_same : (cs : List NMethod) → map (λ (c : NMethod). c) cs ≡ cs
-      map_same [] = refl
-      map_same (c ∷ cs) = ap (λ xs. c ∷ xs) (map_same cs)
-
-  pub is_package : IsPackage list files insns rows p
+  pub is_package : IsPackageByModes list files insns t p
   is_package = record {
     by_list = refl;
     by_files = refl;
     image = is_image;
     members = members_of m.codes m.laid of.laid.count ∙ of.by_members ∙ is_members;
-    methods = λ k x e. subst (λ cs. IsWritten files (near_fields (pool_order cs)) rows x) (sym own_codes)
+    methods = λ k x e. subst (λ cs. IsWrittenByMode files (near_fields (pool_order cs)) t x) (sym own_codes)
         (written k x e);
   }
 

@@ -6,11 +6,22 @@ use Rattle.std.specs.List.{list_any}
 use Rattle.cjc_exported.specs.Bytes.declared.fault.MemberId.{MemberId}
 use Rattle.cjc_methods.specs.CapRead.Opcodes.{form}
 use Rattle.cjc_methods.specs.Bytecode.declared.insn.JInsn.{JInsn}
-use Rattle.cjc_methods.specs.Bytecode.declared.method_code.MethodCode.{MethodCode}
 use Rattle.cjc_methods.specs.Emit.Emitted.{CanBeWritten, HasIndex, HasNames, HasToken, IsEmittable, IsNamedBy}
 use Rattle.cjc_methods.specs.Emit.Emitted.{placed_at}
 use Rattle.cjc_methods.specs.Emit.Said.{CanBeSaid}
+use Rattle.cjc_int_narrow.proofs.IntProofForms.{all_have_forms as int_forms}
+use Rattle.cjc_int_narrow.specs.LowerIntMode.Written.{int_frame, places_from, written_in_int_mode}
+use Rattle.cjc_int_narrow.specs.LowerIntMode.Written.{reached_from as int_reached}
+use Rattle.cjc_int_selection.proofs.Constants.{constants_fit}
+use Rattle.cjc_int_selection.proofs.Emitted.{int_called, int_said}
 use Rattle.cjc_judge.specs.declared.judged.Judged.{Judged}
+use Rattle.cjc_methods.specs.Bytecode.declared.insn.JOp.TheVariants as jop
+use Rattle.cjc_methods.specs.LowerIntPackage.LowerIntMode.Room.{IsRoom}
+use Rattle.cjc_methods.specs.LowerIntPackage.LowerIntMode.declared.modes.Mode.{Mode}
+use Rattle.cjc_methods.specs.LowerIntPackage.LowerIntMode.declared.modes.Mode.TheVariants as modes
+use Rattle.cjc_methods.specs.Types.declared.state.State.{State}
+use Rattle.cjc_methods.specs.Types.Flow.{body_of}
+use Rattle.cjc_methods.specs.Working.ByMode.{selected_by}
 use Rattle.cjc_methods.specs.Narrow.Keys.Index.{index_of}
 use Rattle.cjc_methods.specs.Narrow.Keys.Working.Same.{same_member-Decides}
 use Rattle.cjc_methods.proofs.LayoutPlaces.{all_wide}
@@ -46,13 +57,14 @@ use Rattle.cjc_methods.specs.Tokens.Tokens.{assigned}
 use Rattle.cjc_exported.specs.World.Classes.{all_classes}
 use Rattle.cjc_methods.specs.Narrow.Written.Operands.{CanBeSaid as IsSaid}
 use Rattle.cjc_methods.specs.Narrow.Written.Rows.{has_rows, rows_by}
-use Rattle.cjc_shape.specs.Judged.Pooled.{ArePooled, IsSelected}
+use Rattle.cjc_shape.specs.Judged.Pooled.{ArePooled, CanBeIn, IsSelected}
 use Rattle.cjc_shape.specs.Judged.Tested.{IsTested, states}
 use Rattle.cjc_shape.proofs.JudgedLaws.Called.{IsDeclared, is_fit, is_found, is_there, resolved_declared}
 use Rattle.cjc_shape.proofs.JudgedLaws.Called.{resolved_token}
 use Rattle.cjc_shape.proofs.JudgedLaws.Selected.{judged_acyclic, judged_names, judged_selectable, judged_whole}
-use Rattle.cjc_shape.proofs.JudgedLaws.Selected.{judged_writable}
-use Rattle.cjc_methods.proofs.BytesGets.{any_at, any_off}
+use Rattle.cjc_shape.proofs.JudgedLaws.Selected.{class_file_spelt, classes_spelt, judged_int_whole, judged_writable}
+use Rattle.cjc_shape.proofs.JudgedLaws.Selected.{types}
+use Rattle.cjc_methods.proofs.BytesGets.{any_at}
 
 -- ---- lists
 
@@ -131,8 +143,11 @@ module _ (list : ListTree) (files : List (List ℕ)) (judged : Judged) (is : IsT
 
   -- what is selected for a method
   module _ (m : NMethod) (of : IsSelected judged near m) where
+    abbrev rows : List (Option State)
+    rows = states of.code of.class of.method of.tree of.table
+
     abbrev flags : List Bool
-    flags = has_rows (states of.code of.class of.method of.tree of.table)
+    flags = has_rows rows
 
     abbrev kept : List JInsn
     kept = reached of.code.insns (rows_by flags)
@@ -140,80 +155,150 @@ module _ (list : ListTree) (files : List (List ℕ)) (judged : Judged) (is : IsT
     abbrev r : Resolution
     r = paired judged.world near of.class of.method of.tree of.code.insns (has_rows (rows_by flags))
 
+    -- ---- in short mode
+
     abbrev narrow : NMethod
     narrow = selected_code judged.world near of.class of.method of.tree of.code.insns (rows_by flags)
 
-    in_code : (k : ℕ) (i : NInsn) → slice_get m.insns k ≡ Some i → slice_get narrow.insns k ≡ Some i
-    in_code k i e = ap (λ (x : NMethod). slice_get x.insns k) (sym of.is) ∙ e
+    module _ (short : of.mode ≡ modes.Short) where
+      is_short : m ≡ narrow
+      is_short = of.is
+          ∙ ap (λ q. selected_by q judged.world near of.code of.class of.method of.tree rows of.ranges) short
 
-    -- its instructions ascend
-    up : IsAscending of.code.insns
-    up =
-        let one = of.one in
-        let free = any_off (λ (x : MethodCode). code_works_on_int judged.world x) judged.codes one.place of.code
-        pooled.no_int one.is_code in
-        (judged_selectable list files judged is of.code of.class of.method of.tree of.table of.one free).ascending
+      free : code_works_on_int judged.world of.code ≡ false
+      free = subst (λ q. CanBeIn q judged.world of.code (body_of of.class of.method of.tree of.code.insns) rows) short
+          of.can
 
-    -- one byte says the numbers of what is reached
-    said : (k : ℕ) (i : JInsn) → slice_get kept k ≡ Some i → IsSaid i.op
-    said k i e =
-        let from = reached_from of.code.insns (rows_by flags) k i e in
-        let one = of.one in
-        let free = any_off (λ (x : MethodCode). code_works_on_int judged.world x) judged.codes one.place of.code
-        pooled.no_int one.is_code in
-        (judged_selectable list files judged is of.code of.class of.method of.tree of.table of.one free).said from.0 i
-        from.2 (is_reached flags from.0 from.1 from.3)
+      in_code : (k : ℕ) (i : NInsn) → slice_get m.insns k ≡ Some i → slice_get narrow.insns k ≡ Some i
+      in_code k i e = ap (λ (x : NMethod). slice_get x.insns k) (sym is_short) ∙ e
 
-    fits : m.widest ≤ 32767 → (k : ℕ) (i : JInsn) → slice_get kept k ≡ Some i → OperandsFit i.op
-    fits short k i e =
-        let from = reached_from of.code.insns (rows_by flags) k i e in
-        let one = one_of_all kept k i e in
-        let sum : m.widest ≡ widest_sum kept = ap (λ (x : NMethod). x.widest) of.is in
-        operands_fit judged.world of.code of.class of.method of.tree of.one.is_method from.0 i from.2 (said k i e)
-        (omega (arith, one, sum, short))
+      -- its instructions ascend
+      up : IsAscending of.code.insns
+      up = (judged_selectable list files judged is of.code of.class of.method of.tree of.table of.one free).ascending
 
-    -- a method of an interface that it calls is declared there
+      -- one byte says the numbers of what is reached
+      said : (k : ℕ) (i : JInsn) → slice_get kept k ≡ Some i → IsSaid i.op
+      said k i e =
+          let from = reached_from of.code.insns (rows_by flags) k i e in
+          (judged_selectable list files judged is of.code of.class of.method of.tree of.table of.one free).said from.0 i
+          from.2 (is_reached flags from.0 from.1 from.3)
+
+      fits : m.widest ≤ 32767 → (k : ℕ) (i : JInsn) → slice_get kept k ≡ Some i → OperandsFit i.op
+      fits few k i e =
+          let from = reached_from of.code.insns (rows_by flags) k i e in
+          let one = one_of_all kept k i e in
+          let sum : m.widest ≡ widest_sum kept = ap (λ (x : NMethod). x.widest) is_short in
+          operands_fit judged.world of.code of.class of.method of.tree of.one.is_method from.0 i from.2 (said k i e)
+          (omega (arith, one, sum, few))
+
+    -- ---- in int mode
+
+    abbrev int_narrow : NMethod
+    int_narrow = written_in_int_mode (resolution judged.world near of.class.name) of.tree
+        (body_of of.class of.method of.tree of.code.insns) rows of.ranges
+
+    module _ (int : of.mode ≡ modes.Int) where
+      is_int : m ≡ int_narrow
+      is_int = of.is
+          ∙ ap (λ q. selected_by q judged.world near of.code of.class of.method of.tree rows of.ranges) int
+
+      room : IsRoom (body_of of.class of.method of.tree of.code.insns) rows modes.Int true
+      room = subst (λ q. CanBeIn q judged.world of.code (body_of of.class of.method of.tree of.code.insns) rows) int
+          of.can
+
+      in_int_code : (k : ℕ) (i : NInsn) → slice_get m.insns k ≡ Some i → slice_get int_narrow.insns k ≡ Some i
+      in_int_code k i e = ap (λ (x : NMethod). slice_get x.insns k) (sym is_int) ∙ e
+
+      -- bytes can say it
+      said_in_int_mode : (low n : Naming) → IsSmall low pool.keys → m.widest ≤ 32767
+          → ((k : ℕ) (i : NInsn) → slice_get m.insns k ≡ Some i → NumbersFit low i → NumbersFit n i)
+          → (k : ℕ) (i : NInsn) → slice_get m.insns k ≡ Some i → CanBeSaid n i
+      said_in_int_mode low n small few stay k i e =
+          let spelt = class_file_spelt list files judged is of.code of.class of.method of.tree of.table of.one in
+          let typed = types list files judged is of.code of.class of.method of.tree of.table of.one in
+          int_said judged.world of.code of.class of.method of.tree of.one.is_method spelt.0 spelt.1 rows
+          typed.stands.least typed.unbroken room pool.keys
+          (λ g z h. constants_fit judged.world (classes_spelt list files judged is) (judged_writable list files judged
+          is) z near of.class.name g h)
+          of.ranges low n small (subst (λ (x : NMethod). x.widest ≤ 32767) is_int few)
+          (λ j x f fit. stay j x (ap (λ (y : NMethod). slice_get y.insns j) is_int ∙ f) fit) k i (in_int_code k i e)
+
+    -- ---- what it calls
+
+    -- a method of an interface that it calls is what an invokeinterface of the class file means
+    called : (mode : Mode) → of.mode ≡ mode → (k nargs : ℕ) (id : MemberId)
+        → slice_get m.insns k ≡ Some (insns.Interface nargs id)
+        → (j : ℕ) × (i : JInsn) × (x : MemberId) × (slice_get of.code.insns j ≡ Some i) × (i.op ≡ jop.Call 0xB9 x)
+        × (id ≡ (resolution judged.world near of.class.name).interface x)
+    unfolding with_pairs
+    called modes.Short short k nargs id e =
+        let c = called_from r (place_in r kept) kept k nargs id (in_code short k (insns.Interface nargs id) e) in
+        let from = reached_from of.code.insns (rows_by flags) c.0 c.1 c.3 in
+        (from.0, c.1, c.2, from.2, c.4, c.5)
+    called modes.Int int k nargs id e =
+        let spelt = class_file_spelt list files judged is of.code of.class of.method of.tree of.table of.one in
+        let typed = types list files judged is of.code of.class of.method of.tree of.table of.one in
+        int_called judged.world of.code of.class of.method of.tree of.one.is_method spelt.0 spelt.1 rows
+        typed.stands.least typed.unbroken (room int) pool.keys
+        (λ g z h. constants_fit judged.world (classes_spelt list files judged is) (judged_writable list files judged
+        is) z near of.class.name g h)
+        of.ranges k nargs id (in_int_code int k (insns.Interface nargs id) e)
+
+    -- it is declared there
     call_declared : (k nargs : ℕ) (id : MemberId) → slice_get m.insns k ≡ Some (insns.Interface nargs id)
         → IsDeclared judged.world id
-    unfolding resolution with_pairs
+    unfolding resolution
     call_declared k nargs id e =
-        let called = called_from r (place_in r kept) kept k nargs id (in_code k (insns.Interface nargs id) e) in
-        let from = reached_from of.code.insns (rows_by flags) called.0 called.1 called.3 in
+        let c = called of.mode refl k nargs id e in
         let one = of.one in
         let names = judged_names list files judged is in
         let there = is_there judged.world judged.codes names one.place of.code one.is_code of.class of.method of.tree
-        one.is_method from.0 called.1 from.2 in
+        one.is_method c.0 c.1 c.3 in
         let found = is_found judged.world judged.codes names one.place of.code one.is_code of.class of.method of.tree
-        one.is_method from.0 called.1 from.2 in
+        one.is_method c.0 c.1 c.3 in
         let fit = is_fit judged.world judged.codes names one.place of.code one.is_code of.class of.method of.tree
-        one.is_method from.0 called.1 from.2 in
-        let op = called.4 in
-        let d = resolved_declared judged.world (judged_acyclic list files judged is) of.class called.2
+        one.is_method c.0 c.1 c.3 in
+        let op = c.4 in
+        let d = resolved_declared judged.world (judged_acyclic list files judged is) of.class c.2
         (ap (names_missing (all_classes judged.world)) (sym op) ∙ there) (ap (names_unfound (all_classes judged.world))
         (sym op) ∙ found) (ap (names_unfit judged.world of.class) (sym op) ∙ fit) in
-        subst (IsDeclared judged.world) (sym called.5) d
+        subst (IsDeclared judged.world) (sym c.5) d
 
-    -- a method of an interface that it calls has a token
+    -- and has a token
     call_token : (k nargs : ℕ) (id : MemberId) → slice_get m.insns k ≡ Some (insns.Interface nargs id) → (t : ℕ)
         × (token_of judged.world (assigned applets judged.world) id ≡ Some t) × (t < 256)
-    unfolding resolution with_pairs
+    unfolding resolution
     call_token k nargs id e =
-        let called = called_from r (place_in r kept) kept k nargs id (in_code k (insns.Interface nargs id) e) in
-        let from = reached_from of.code.insns (rows_by flags) called.0 called.1 called.3 in
+        let c = called of.mode refl k nargs id e in
         let one = of.one in
         let names = judged_names list files judged is in
         let there = is_there judged.world judged.codes names one.place of.code one.is_code of.class of.method of.tree
-        one.is_method from.0 called.1 from.2 in
+        one.is_method c.0 c.1 c.3 in
         let found = is_found judged.world judged.codes names one.place of.code one.is_code of.class of.method of.tree
-        one.is_method from.0 called.1 from.2 in
+        one.is_method c.0 c.1 c.3 in
         let fit = is_fit judged.world judged.codes names one.place of.code one.is_code of.class of.method of.tree
-        one.is_method from.0 called.1 from.2 in
-        let op = called.4 in
-        let t = resolved_token judged.world (judged_acyclic list files judged is) of.class called.2
+        one.is_method c.0 c.1 c.3 in
+        let op = c.4 in
+        let t = resolved_token judged.world (judged_acyclic list files judged is) of.class c.2
         (ap (names_missing (all_classes judged.world)) (sym op) ∙ there) (ap (names_unfound (all_classes judged.world))
         (sym op) ∙ found) (ap (names_unfit judged.world of.class) (sym op) ∙ fit)
         applets pooled.tokens (judged_writable list files judged is) in
-        (t.0, ap (token_of judged.world (assigned applets judged.world)) called.5 ∙ t.1, t.2)
+        (t.0, ap (token_of judged.world (assigned applets judged.world)) c.5 ∙ t.1, t.2)
+
+    -- ---- in either mode
+
+    forms_by : (mode : Mode) → of.mode ≡ mode → (k : ℕ) (i : NInsn) → slice_get m.insns k ≡ Some i → HasForm i
+    forms_by modes.Short short k i e = all_have_forms r (place_in r kept) kept k i (in_code short k i e)
+    forms_by modes.Int int k i e =
+        int_forms (int_frame (body_of of.class of.method of.tree of.code.insns))
+        (resolution judged.world near of.class.name) of.tree (int_reached of.ranges 0 of.code.insns rows)
+        (places_from 0 of.code.insns rows) k i (in_int_code int k i e)
+
+    whole_by : (mode : Mode) → of.mode ≡ mode → IsWhole m
+    whole_by modes.Short short = subst IsWhole (sym (is_short short)) (judged_whole list files judged is of.code
+        of.class of.method of.tree of.table of.one near)
+    whole_by modes.Int int = subst IsWhole (sym (is_int int)) (judged_int_whole list files judged is of.code of.class
+        of.method of.tree of.table of.one near of.ranges)
 
   call_tokens : (id : MemberId) → is_called methods id ≡ true → (t : ℕ)
       × (token_of judged.world (assigned applets judged.world) id ≡ Some t) × (t < 256)
@@ -252,21 +337,32 @@ module _ (list : ListTree) (files : List (List ℕ)) (judged : Judged) (is : IsT
     of k i e = pooled.each at m there k i e
 
     forms : (k : ℕ) (i : NInsn) → slice_get m.insns k ≡ Some i → HasForm i
-    forms k i e = let o = of k i e in all_have_forms (r m o) (place_in (r m o) (kept m o)) (kept m o) k i
-        (in_code m o k i e)
+    forms k i e = let o = of k i e in forms_by m o o.mode refl k i e
 
     names : (k : ℕ) (i : NInsn) → slice_get m.insns k ≡ Some i → HasNames pool.keys (token_in pool) i
     names k i e = names_there judged.world (assigned applets judged.world) methods pool pooled.is_pool calls_have_tokens
         i (record { method = m; at = at; place = k; is_method = there; is_insn = e })
 
-    can_be_said : m.widest ≤ 32767 → (k : ℕ) (i : NInsn) → slice_get m.insns k ≡ Some i → CanBeSaid n i
-    can_be_said short k i e =
+    stay : (k : ℕ) (i : NInsn) → slice_get m.insns k ≡ Some i
+        → NumbersFit (by_pool pool.keys (token_in pool) n named) i → NumbersFit n i
+    stay k i e fit = numbers_fit pool.keys (token_in pool) n named i (names k i e) fit
+
+    said_by : (mode : Mode) → m.widest ≤ 32767 → (k : ℕ) (i : NInsn) (e : slice_get m.insns k ≡ Some i)
+        → (let o = of k i e in o.mode ≡ mode) → CanBeSaid n i
+    said_by modes.Short few k i e short =
         let o = of k i e in
         let small = by_pool_small pool.keys (token_in pool) n named pooled.few tokens_low in
         let fit = selected_fit (by_pool pool.keys (token_in pool) n named) pool.keys small judged.world o.class o.method
-        o.tree o.code.insns (rows_by (flags m o)) (up m o) (said m o) k i (in_code m o k i e) in
-        all_said n (r m o) (place_in (r m o) (kept m o)) (kept m o) (fits m o short) k i (in_code m o k i e)
-        (numbers_fit pool.keys (token_in pool) n named i (names k i e) fit)
+        o.tree o.code.insns (rows_by (flags m o)) (up m o short) (said m o short) k i (in_code m o short k i e) in
+        all_said n (r m o) (place_in (r m o) (kept m o)) (kept m o) (fits m o short few) k i (in_code m o short k i e)
+        (stay k i e fit)
+    said_by modes.Int few k i e int =
+        let o = of k i e in
+        said_in_int_mode m o int (by_pool pool.keys (token_in pool) n named) n
+        (by_pool_small pool.keys (token_in pool) n named pooled.few tokens_low) few stay k i e
+
+    can_be_said : m.widest ≤ 32767 → (k : ℕ) (i : NInsn) → slice_get m.insns k ≡ Some i → CanBeSaid n i
+    can_be_said few k i e = let o = of k i e in said_by o.mode few k i e refl
 
     pub can_be_emitted : ((n : Naming) (m : NMethod) (l : Layout) (offset : ℕ) → IsLayout m l → l.length ≤ 32767
         → ((k : ℕ) (i : NInsn) → slice_get m.insns k ≡ Some i → HasForm i) → ((k : ℕ) (i : NInsn)
@@ -286,8 +382,7 @@ module _ (list : ListTree) (files : List (List ℕ)) (judged : Judged) (is : IsT
             omega (arith, none, long)
         by (i ∷ rest) e =
             let o = of 0 i (ap (λ is. slice_get is 0) e) in
-            let whole : IsWhole m = subst IsWhole (sym o.is) (judged_whole list files judged is o.code o.class o.method
-            o.tree o.table o.one near) in
+            let whole : IsWhole m = whole_by m o o.mode refl in
             let size = all_wide m.insns l.wide (length m.insns) in
             let wide = whole.size in
             let long = layout.length in

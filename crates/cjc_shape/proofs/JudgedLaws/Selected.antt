@@ -161,6 +161,16 @@ module _ (list : ListTree) (files : List (List ℕ)) (judged : Judged) (is : IsT
       ∙ ap (λ cs. check_breaks list.name (files_spelt list trees) cs (settings_of list)) same_codes
       ∙ none
 
+  -- files spell its classes
+  pub classes_spelt : (n : ℕ) (class : ClassTree) → slice_get judged.world.classes n ≡ Some class
+      → (bytes : List ℕ) × IsSpelt class bytes
+  classes_spelt n class e =
+      let there : slice_get (classes_of trees) n ≡ Some class = sym (ap (λ cs. slice_get cs n)
+      is.judged_by.read.classes) ∙ e in
+      let found = class_spelt list.lines files trees n class is.judged_by.read.spelt there in
+      let file = is.are_files found.0 found.1 found.2 in
+      (found.1, record { in_bytes = file.0; short = file.1; spelt = found.3 })
+
   module _ (code : MethodCode) (class : ClassTree) (method : MethodTree) (tree : CodeTree) (table : TypeTable)
       (one : IsOne judged code class method tree table) where
     pub types : IsTypeTable (all_classes judged.world) (body_of class method tree code.insns) table
@@ -186,13 +196,8 @@ module _ (list : ListTree) (files : List (List ℕ)) (judged : Judged) (is : IsT
     }
 
     -- its file spells its class
-    class_file_spelt : (bytes : List ℕ) × IsSpelt class bytes
-    class_file_spelt =
-        let there : slice_get (classes_of trees) code.class ≡ Some class =
-        sym (ap (λ cs. slice_get cs code.class) is.judged_by.read.classes) ∙ one.is_method.is_class in
-        let found = class_spelt list.lines files trees code.class class is.judged_by.read.spelt there in
-        let file = is.are_files found.0 found.1 found.2 in
-        (found.1, record { in_bytes = file.0; short = file.1; spelt = found.3 })
+    pub class_file_spelt : (bytes : List ℕ) × IsSpelt class bytes
+    class_file_spelt = classes_spelt code.class class one.is_method.is_class
 
     pub judged_selectable : code_works_on_int judged.world code ≡ false → IsSelectable method tree code.insns
         (has_rows (states code class method tree table))

@@ -28,9 +28,8 @@ use Rattle.cjc_methods.specs.List.Listed.{ListTree}
 use Rattle.cjc_judge.proofs.Firsts.{all_spell}
 use Rattle.cjc_judge.proofs.Tables.{tables_sized}
 use Rattle.cjc_methods.specs.Ready.{AreReady, IsDecoded}
-use Rattle.cjc_narrow_proof.specs.Laws.Unbroken.{IsUnbroken}
+use Rattle.cjc_narrow_proof.specs.Laws.Unbroken.{IsUnbroken, NoneWorksOnInt}
 use Rattle.cjc_narrow_proof.proofs.LawsLaws.Own.{flags_by_name}
-use Rattle.cjc_methods.specs.Subset.Ints.{any_works_on_int}
 use Rattle.cjc_methods.specs.Subset.Places.{at_method, of_class, of_method}
 use Rattle.cjc_methods.specs.Tokens.Rules.{FewCells, FewExported, tested_breaks, token_breaks}
 use Rattle.cjc_exported.specs.World.Files.{Files}
@@ -97,7 +96,7 @@ module _ (list : ListTree) (files : List (List ℕ)) (judged : Judged) (is : IsS
       let few = lines_few list.lines files trees is.judged_by.read.spelt in
       subst (λ (w : Files). length w.classes ≤ class_count w.lines) (sym same) few
 
-  pub is_unbroken : any_works_on_int judged.world judged.codes ≡ false
+  pub is_unbroken : NoneWorksOnInt judged.world judged.codes
       → IsUnbroken list.name judged.world judged.codes (settings_of list)
   is_unbroken free = record {
     listed = listed;

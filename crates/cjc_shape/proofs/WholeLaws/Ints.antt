@@ -1,102 +1,104 @@
--- No method of a package works on int whose list does not allow int, or that does not break 801.
-use Rattle.std.proofs.Common.{◌≡◌, ℕ, refl, sym, ap, subst, ◌∙◌, Bool, true, false, ◌&&◌, ◌||◌, List, []}
-use Rattle.cjc_exported.specs.Bytes.Breaks.{IsFirstRefusal, at, list_spot}
-use Rattle.cjc_exported.specs.Bytes.declared.fault.Fault.{Fault}
+-- No method that is written works on int but in int mode.
+use Rattle.std.proofs.Common.{◌≡◌, ℕ, refl, ap, subst, ◌∙◌, Bool, true, false, List, length}
+use Rattle.std.specs.List.{Contains}
+use Rattle.std.specs.Prelude.{ℤ, Option, Some, slice_get}
+use Rattle.std.proofs.lemmas.Option.{slice_get-get_or}
+use Rattle.cjc_exported.specs.Bytes.declared.fault.MemberId.{MemberId}
+use Rattle.cjc_exported.specs.ClassFile.Code.{CodeTree}
+use Rattle.cjc_exported.specs.ClassFile.declared.tree.ClassTree.{ClassTree}
+use Rattle.cjc_exported.specs.ClassFile.declared.tree.MethodTree.{MethodTree}
 use Rattle.cjc_methods.specs.List.Listed.{ListTree}
 use Rattle.cjc_judge.specs.Rules.{settings_of}
 use Rattle.cjc_judge.specs.declared.judged.Judged.{Judged}
-use Rattle.cjc_exported.specs.Components.Limits.{code_breaks, form_breaks, has_int_code, int_breaks, spot_of_list}
 use Rattle.cjc_exported.specs.Components.Package.{Package}
+use Rattle.cjc_int_narrow.proofs.IntModeNamed.{free_in_short_mode}
+use Rattle.cjc_intervals.proofs.Flow.{range_laws}
+use Rattle.cjc_intervals.proofs.RangeLaws.Least.{least_exists}
+use Rattle.cjc_intervals.proofs.RangeLaws.Stays.{range_flow_stays}
+use Rattle.cjc_intervals.specs.Flow.{range_flow}
+use Rattle.cjc_intervals.specs.Frames.{RangeState}
+use Rattle.cjc_intervals.specs.Tables.{IsLeastRanges}
 use Rattle.cjc_methods.specs.Bytecode.PackageCodes.{all_codes}
 use Rattle.cjc_methods.specs.Bytecode.declared.method_code.MethodCode.{MethodCode}
+use Rattle.cjc_methods.specs.JvmSemantics.Linked.{Method}
+use Rattle.cjc_methods.specs.JvmSemantics.OnePackage.{method_by}
+use Rattle.cjc_methods.specs.LowerIntPackage.LowerIntMode.Modes.{IsModeOf}
+use Rattle.cjc_methods.specs.LowerIntPackage.LowerIntMode.declared.modes.Mode.TheVariants as modes
+use Rattle.cjc_methods.specs.LowerIntPackage.Modes.{Tables}
 use Rattle.cjc_methods.specs.Ready.{AreFree}
-use Rattle.cjc_methods.specs.Subset.Ints.{any_works_on_int, code_works_on_int}
-use Rattle.cjc_narrow_proof.proofs.SelectedLaws.IntFree.{none_without}
-use Rattle.cjc_shape.specs.Prepared.{BreaksNothing, IsSound}
-use Rattle.cjc_shape.specs.Whole.Conversion.{IsPackageOf, int_breaks_where}
-use Rattle.cjc_shape.specs.Whole.Working.Shaped as told
+use Rattle.cjc_methods.specs.Subset.Ints.{code_works_on_int}
+use Rattle.cjc_methods.specs.Tokens.Members.{is_initialiser}
+use Rattle.cjc_methods.specs.Types.declared.state.State.{State}
+use Rattle.cjc_methods.specs.Types.Flow.{Body, body_of}
+use Rattle.cjc_methods.specs.Types.Tables.{IsMethodOf}
+use Rattle.cjc_narrow_proof.proofs.SelectedLaws.IntFree.{code_without}
+use Rattle.cjc_narrow_proof.specs.Laws.Unbroken.{NoneWorksOnInt}
+use Rattle.cjc_shape.specs.Prepared.{IsSound}
+use Rattle.cjc_shape.specs.Whole.Conversion.{AreShort, HasModes, IsPackageOf}
 use Rattle.cjc_shape.proofs.JudgedLaws.Selected.{judged_checks}
 use Rattle.cjc_shape.proofs.PreparedLaws.Sound.{is_tested}
-use Rattle.cjc_shape.proofs.WholeLaws.Drafts.{draft, is_draft}
-use Rattle.cjc_shape.proofs.WholeLaws.Second.{both_none, is_base, package_is_draft}
+use Rattle.cjc_shape.proofs.WholeLaws.Drafts.{same_spelt}
+use Rattle.cjc_shape.proofs.WholeLaws.Modes.{code_listed, mode_told, one_mode, own_has, own_tables}
 use Rattle.cjc_exported.specs.World.Files.{Files}
-use Rattle.cjc_methods.proofs.BytesBrokenRules.{not_broken}
-use Rattle.cjc_methods.proofs.BytesBools.{both_true, or_left, or_right}
-use Rattle.cjc_methods.proofs.BytesGets.{any_off}
+
+-- each method has a least table of intervals
+ranges_exist : (b : Body) (constant : MemberId → Option ℤ) (types : List (Option State))
+    → (ranges : List (Option RangeState)) × IsLeastRanges b constant types ranges
+ranges_exist b constant types = least_exists (range_flow b constant types) (length b.insns)
+    (range_laws b constant types) (range_flow_stays b constant types)
 
 module _ (list : ListTree) (files : List (List ℕ)) (judged : Judged) (is : IsSound list files judged) where
-  -- the instructions that were read are those of a package of these files
-  codes_by : (p : Package) → p.files ≡ judged.world → (let v = p.files in all_codes v.classes ≡ judged.codes)
-  codes_by p e = ap (λ (v : Files). all_codes v.classes) e ∙ sym is.judged_by.read.codes_are
+  -- ---- methods by their modes
 
-  pub free_of : (p : Package) → p.list ≡ list → p.files ≡ judged.world → int_breaks p ≡ []
-      → any_works_on_int judged.world judged.codes ≡ false
-  free_of p by_list by_files none = by list.ints refl
-    where
-      by : (b : Bool) → list.ints ≡ b → any_works_on_int judged.world judged.codes ≡ false
-      by false e = none_without list.name judged.world judged.codes (settings_of list)
-          (judged_checks list files judged (is_tested list files judged is)) e
-      by true e =
-          let own : (let v = p.files in any_works_on_int v (all_codes v.classes)) ≡ false =
-          both_true (let l = p.list in l.ints) (let v = p.files in any_works_on_int v (all_codes v.classes))
-          (ap (λ (l : ListTree). l.ints) by_list ∙ e) (not_broken _ (spot_of_list p) 801 none) in
-          sym (ap (λ (cs : List MethodCode). any_works_on_int p.files cs) (codes_by p by_files)
-          ∙ ap (λ (v : Files). any_works_on_int v judged.codes) by_files) ∙ own
+  module _ (t : Tables) (has : HasModes list.ints judged.world t) where
+    -- one that is not in int mode
+    free_by : (k : ℕ) (code : MethodCode) → slice_get judged.codes k ≡ Some code
+        → (class : ClassTree) (method : MethodTree) (tree : CodeTree) → IsMethodOf judged.world code class method tree
+        → is_initialiser method.name ≡ false → t.mode (method_by class method (Some tree)) ≡ modes.Short
+        → code_works_on_int judged.world code ≡ false
+    free_by k code is_code class method tree of plain short = by list.ints refl
+      where
+        m : Method
+        m = method_by class method (Some tree)
 
-  -- as its 801 is unbroken
-  pub ints_free : (p : Package) → IsPackageOf list files p → int_breaks p ≡ []
-      → any_works_on_int judged.world judged.codes ≡ false
-  ints_free p whole none =
-      let base = is_base list files judged is p (package_is_draft list files p whole) in
-      free_of p base.by_list base.by_files none
+        by : (b : Bool) → list.ints ≡ b → code_works_on_int judged.world code ≡ false
+        by false e = code_without list.name judged.world judged.codes (settings_of list)
+            (judged_checks list files judged (is_tested list files judged is)) e k code is_code
+        by true e =
+            free_in_short_mode judged.world code class method tree of (t.types m) (t.ranges m) (t.mode m) short
+            (subst (λ a. IsModeOf a (body_of class method tree code.insns) (t.types m) (t.ranges m) (t.mode m)) e
+            (has.modes.with_code code class method tree (code_listed list files judged is k code is_code) of plain))
 
-  pub package_free : (p : Package) → IsPackageOf list files p → code_breaks p ≡ []
-      → any_works_on_int judged.world judged.codes ≡ false
-  package_free p whole none = ints_free p whole (both_none (int_breaks p) (form_breaks p) none).0
+    pub are_free : AreFree judged.world judged.codes judged.modes
+    are_free k code class method tree is_code is_mode of plain =
+        free_by k code is_code class method tree of plain
+        (mode_told list files judged is t has k code modes.Short is_code is_mode class method tree of)
 
--- ---- 801, as it is told of a package as it was read
+    -- where none is in int mode
+    none_works : AreShort list.ints judged.world → NoneWorksOnInt judged.world judged.codes
+    none_works short code class method tree listed of plain =
+        let there : slice_get judged.codes listed.0 ≡ Some code = slice_get-get_or judged.codes listed.0 code listed.1
+        ∙ ap Some listed.2 in
+        free_by listed.0 code there class method tree of plain (by (code_listed list files judged is listed.0 code
+        there))
+      where
+        m : Method
+        m = method_by class method (Some tree)
 
-module _ (j : Judged) (is : BreaksNothing j) where
-  abbrev d : Package
-  d = draft j.list.now j.files.now j is
+        by : Contains (all_codes (let w = judged.world in w.classes)) code → t.mode m ≡ modes.Short
+        by there =
+            let b = body_of class method tree code.insns in
+            let tables = has.least code class method tree there of in
+            one_mode list.ints b (t.types m) (t.ranges m) (t.mode m) modes.Short
+            (has.modes.with_code code class method tree there of plain)
+            (short code class method tree there of plain (t.types m) tables.0 (t.ranges m) tables.1)
 
-  -- that of its draft
-  code_told : has_int_code d ≡ told.has_int_code j
-  code_told =
-      let base = is_base j.list.now j.files.now j is d (is_draft j.list.now j.files.now j is) in
-      ap (λ (l : ListTree). l.ints && (let v = d.files in any_works_on_int v (all_codes v.classes))) base.by_list
-      ∙ ap (λ b. let l = j.list.now in l.ints && b)
-      (ap (λ (cs : List MethodCode). any_works_on_int d.files cs) (codes_by j.list.now j.files.now j is d base.by_files)
-      ∙ ap (λ (v : Files). any_works_on_int v j.codes) base.by_files)
+  -- ---- packages without int mode
 
-  pub draft_ints : int_breaks_where (told.has_int_mode j) d ≡ told.int_breaks j
-  draft_ints =
-      let base = is_base j.list.now j.files.now j is d (is_draft j.list.now j.files.now j is) in
-      ap (λ b. at (told.has_int_mode j || b) (spot_of_list d) 801) code_told
-      ∙ ap (λ (l : ListTree). at (told.has_int_mode j || told.has_int_code j) (list_spot l.name) 801) base.by_list
+  pub short_free : AreShort list.ints judged.world → NoneWorksOnInt judged.world judged.codes
+  short_free = none_works (own_tables list files judged is ranges_exist) (own_has list files judged is ranges_exist)
 
-  pub draft_refused : (e : Fault) → IsFirstRefusal (told.int_breaks j) e
-      → IsFirstRefusal (int_breaks_where (told.has_int_mode j) d) e
-  draft_refused e refused = subst (λ bs. IsFirstRefusal bs e) (sym draft_ints) refused
-
-  module _ (none : told.int_breaks j ≡ []) where
-    needs_none : (told.has_int_mode j || told.has_int_code j) ≡ false
-    needs_none = not_broken _ (let list = j.list.now in list_spot list.name) 801 none
-
-    -- no method is in int mode
-    pub no_int_mode : told.has_int_mode j ≡ false
-    no_int_mode = or_left (told.has_int_mode j) (told.has_int_code j) needs_none
-
-    pub draft_free : int_breaks d ≡ []
-    draft_free = ap (λ b. at b (spot_of_list d) 801) (code_told ∙ or_right (told.has_int_mode j) (told.has_int_code j)
-        needs_none)
-
-    -- and none works on int
-    pub free_here : any_works_on_int j.world j.codes ≡ false
-    free_here =
-        let base = is_base j.list.now j.files.now j is d (is_draft j.list.now j.files.now j is) in
-        free_of j.list.now j.files.now j is d base.by_list base.by_files draft_free
-
-    pub are_free : AreFree j.world j.codes j.modes
-    are_free k code class method tree is_code is_mode of plain = any_off (λ (c : MethodCode). code_works_on_int j.world
-        c) j.codes k code free_here is_code
+  pub package_free : (p : Package) → IsPackageOf list files p → NoneWorksOnInt judged.world judged.codes
+  package_free p whole =
+      let here = same_spelt list files judged is p.files whole.rows whole.spelt in
+      short_free (subst (λ (w : Files). AreShort list.ints w) here whole.short)

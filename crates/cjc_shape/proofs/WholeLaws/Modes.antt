@@ -1,9 +1,9 @@
 -- The modes of the methods of a package that breaks no rule of its files: what was found of them is what is told of
 -- them.
-use Rattle.std.proofs.Common.{◌≡◌, ℕ, zero, suc, ◌<◌, refl, sym, ap, subst, ◌∙◌, arith, Bool, true, false, List, []}
-use Rattle.std.proofs.Common.{◌∷◌, length}
+use Rattle.std.proofs.Common.{◌≡◌, ◌⊎◌, ℕ, zero, suc, refl, sym, ap, subst, ◌∙◌, arith, inl, inr, Bool, true}
+use Rattle.std.proofs.Common.{false, List, [], ◌∷◌, length}
 use Rattle.std.specs.Prelude.{◌&&◌, ◌||◌, not, if◌then◌else◌, ℤ, Option, Some, slice_get}
-use Rattle.std.specs.List.{Contains}
+use Rattle.std.specs.List.{Contains, list_any}
 use Rattle.std.proofs.lemmas.Option.{slice_get_within}
 use Rattle.cjc_exported.specs.Bytes.declared.fault.MemberId.{MemberId}
 use Rattle.cjc_exported.specs.ClassFile.Code.{CodeTree}
@@ -39,20 +39,18 @@ use Rattle.cjc_methods.specs.Narrow.Rows.Resolved.{method_found}
 use Rattle.cjc_methods.specs.Ready.{AreReady, AreRows, AreTold, IsOwn}
 use Rattle.cjc_methods.specs.Tokens.Members.{is_initialiser}
 use Rattle.cjc_methods.specs.Types.declared.state.State.{State}
-use Rattle.cjc_methods.specs.Types.declared.table.TypeTable.{TypeTable}
 use Rattle.cjc_methods.specs.Types.Flow.{Body, body_of}
 use Rattle.cjc_methods.specs.Types.Tables.{IsLeastTable, IsMethodOf, IsOfPackage, rows_of}
 use Rattle.cjc_narrow_proof.proofs.TypesLeast.{one_least}
 use Rattle.cjc_shape.proofs.PreparedLaws.Rows.{is_named, named_code, own, own_named}
 use Rattle.cjc_shape.proofs.PreparedLaws.Sound.{are_ready, listed, world_unbroken}
-use Rattle.cjc_shape.proofs.WholeLaws.Drafts.{least, rows, short_tables}
+use Rattle.cjc_shape.proofs.WholeLaws.Drafts.{least, rows}
 use Rattle.cjc_shape.specs.Prepared.{IsSound}
-use Rattle.cjc_shape.specs.Whole.Conversion.{AreShort, HasModes, TellsIntMode}
-use Rattle.cjc_shape.specs.Whole.Working.Shaped.{has_int_mode}
+use Rattle.cjc_shape.specs.Whole.Conversion.{AreShort, HasModes}
 
 -- ---- one mode
 
-one_mode : (ints : Bool) (b : Body) (types : List (Option State)) (ranges : List (Option RangeState)) (x y : Mode)
+pub one_mode : (ints : Bool) (b : Body) (types : List (Option State)) (ranges : List (Option RangeState)) (x y : Mode)
     → IsModeOf ints b types ranges x → IsModeOf ints b types ranges y → x ≡ y
 one_mode ints b types ranges modes.Short modes.Short h k = refl
 one_mode ints b types ranges modes.Short modes.Int h k = absurd (h k)
@@ -89,14 +87,6 @@ may_not ints method e = ap (λ b. ints && not b) e ∙ by ints
     by : (b : Bool) → (b && false) ≡ false
     by true = refl
     by false = refl
-
--- what is told of files is one
-pub one_tells : (ints : Bool) (files : Files) (a b : Bool) → TellsIntMode ints files a → TellsIntMode ints files b
-    → a ≡ b
-one_tells ints files true true h k = refl
-one_tells ints files true false h k = absurd (h k)
-one_tells ints files false true h k = absurd (k h)
-one_tells ints files false false h k = refl
 
 -- ---- the mode of the method of a name
 
@@ -150,12 +140,12 @@ module _ (list : ListTree) (files : List (List ℕ)) (judged : Judged) (is : IsS
       → IsModeBy (may_be_int list.ints method) world (body_of class method tree code.insns) mode
   mode_is k code mode e f = mode_at list.ints world judged.codes judged.modes k code mode are_modes e f
 
-  code_listed : (k : ℕ) (code : MethodCode) → slice_get judged.codes k ≡ Some code
+  pub code_listed : (k : ℕ) (code : MethodCode) → slice_get judged.codes k ≡ Some code
       → Contains (all_codes world.classes) code
   code_listed k code e = contained (all_codes world.classes) k code (sym (ap (λ cs. slice_get cs k) ready.codes_are)
       ∙ e)
 
-  listed_code : (code : MethodCode) → Contains (all_codes world.classes) code → (k : ℕ) × (slice_get judged.codes k
+  pub listed_code : (code : MethodCode) → Contains (all_codes world.classes) code → (k : ℕ) × (slice_get judged.codes k
       ≡ Some code)
   listed_code code contains =
       let there = contains_at (all_codes world.classes) code contains in
@@ -170,8 +160,12 @@ module _ (list : ListTree) (files : List (List ℕ)) (judged : Judged) (is : IsS
 
   -- ---- whether there is int mode
 
+  -- a method was found to be in int mode
+  abbrev pub any_int : Bool
+  any_int = list_any is_int judged.modes
+
   -- where none was found
-  pub all_short : has_int_mode judged ≡ false → AreShort list.ints world
+  pub all_short : any_int ≡ false → AreShort list.ints world
   all_short off code class method tree contains of plain types typed ranges ranged =
       let there = listed_code code contains in
       let k = there.0 in
@@ -209,7 +203,7 @@ module _ (list : ListTree) (files : List (List ℕ)) (judged : Judged) (is : IsS
         (has.least code class method tree (code_listed k code is_code) of).0
         (ready.each k code table is_code is_table class method tree of).types.stands.least
 
-    mode_told : (k : ℕ) (code : MethodCode) (mode : Mode) → slice_get judged.codes k ≡ Some code
+    pub mode_told : (k : ℕ) (code : MethodCode) (mode : Mode) → slice_get judged.codes k ≡ Some code
         → slice_get judged.modes k ≡ Some mode
         → (class : ClassTree) (method : MethodTree) (tree : CodeTree) → IsMethodOf world code class method tree
         → t.mode (method_by class method (Some tree)) ≡ mode
@@ -251,7 +245,7 @@ module _ (list : ListTree) (files : List (List ℕ)) (judged : Judged) (is : IsS
 
     -- ---- where some method is in int mode
 
-    some_int : has_int_mode judged ≡ true → AreShort list.ints world → ⊥
+    some_int : any_int ≡ true → AreShort list.ints world → ⊥
     some_int on short =
         let there = any_at is_int judged.modes on in
         let k = there.0 in
@@ -286,12 +280,13 @@ module _ (list : ListTree) (files : List (List ℕ)) (judged : Judged) (is : IsS
                 (t.ranges m) tables.1 (subst (λ a. IsInIntMode a b (t.types m) (t.ranges m))
                 (may_plain list.ints method e) in_int_mode)
 
-    pub tells_here : TellsIntMode list.ints world (has_int_mode judged)
-    tells_here = by (has_int_mode judged) refl
+    -- either none is, or some is
+    pub short_or_not : AreShort list.ints world ⊎ (AreShort list.ints world → ⊥)
+    short_or_not = by any_int refl
       where
-        by : (b : Bool) → has_int_mode judged ≡ b → TellsIntMode list.ints world b
-        by true e = some_int e
-        by false e = all_short e
+        by : (b : Bool) → any_int ≡ b → AreShort list.ints world ⊎ (AreShort list.ints world → ⊥)
+        by true e = inr (some_int e)
+        by false e = inl (all_short e)
 
     -- ---- where none is
 
@@ -330,7 +325,7 @@ module _ (list : ListTree) (files : List (List ℕ)) (judged : Judged) (is : IsS
 
   module _ (exist : (b : Body) (constant : MemberId → Option ℤ) (types : List (Option State))
       → (ranges : List (Option RangeState)) × IsLeastRanges b constant types ranges) where
-    own_body : Method → Body
+    pub own_body : Method → Body
     own_body m = read_of m (flags_of (method_found (all_classes world) m.id))
 
     pub own_ranges : Method → List (Option RangeState)
@@ -351,7 +346,7 @@ module _ (list : ListTree) (files : List (List ℕ)) (judged : Judged) (is : IsS
       abbrev body : Body
       body = body_of class method tree code.insns
 
-      body_is : own_body this ≡ body
+      pub body_is : own_body this ≡ body
       unfolding own_body
       body_is =
           ap (λ flags. read_of this flags) (ready.found code.class code.method class method of.is_class of.is_method)
@@ -421,18 +416,3 @@ module _ (list : ListTree) (files : List (List ℕ)) (judged : Judged) (is : IsS
         without_code = λ class method. refl;
       };
     }
-
-    -- where none is in int mode, tables by which every method is in short mode are told too
-    pub short_told : has_int_mode judged ≡ false
-        → AreTold judged.world judged.codes judged.types judged.modes (short_tables (rows list files judged is)
-        own_ranges)
-    unfolding own_tables
-    short_told off =
-        let told = tables_told own_tables own_has in
-        record {
-          rows = told.rows;
-          ranges = told.ranges;
-          mode = λ k code mode is_code is_mode class method tree of.
-              sym (short_of mode (any_off is_int judged.modes k mode off is_mode));
-          without_code = λ class method. refl;
-        }

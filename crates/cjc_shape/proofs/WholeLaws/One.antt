@@ -13,10 +13,12 @@ use Rattle.cjc_methods.specs.List.Listed.{ListTree}
 use Rattle.cjc_narrow_proof.specs.NCode.declared.narrow.NInsn.{NInsn}
 use Rattle.cjc_narrow_proof.specs.NCode.declared.narrow.NMethod.{NMethod}
 use Rattle.cjc_shape.specs.Prepared.{IsSound}
+use Rattle.cjc_exported.specs.World.Classes.{all_classes}
 use Rattle.cjc_exported.specs.World.Files.{Files}
-use Rattle.cjc_shape.specs.Whole.Conversion.{IsPackageOf}
-use Rattle.cjc_shape.proofs.WholeLaws.Drafts.{same_members, same_narrow, same_spelt}
-use Rattle.cjc_shape.proofs.WholeLaws.Second.{package_is_draft}
+use Rattle.cjc_exported.specs.World.Order.{method_order}
+use Rattle.cjc_shape.specs.Whole.Conversion.{IsPackageByModesOf}
+use Rattle.cjc_shape.proofs.WholeLaws.Codes.{draft_files, draft_has, package_is_draft, same_narrow}
+use Rattle.cjc_shape.proofs.WholeLaws.Drafts.{same_members}
 
 -- ---- one choice of wide jumps
 
@@ -75,34 +77,39 @@ methods_same files (m ∷ ms) (n ∷ ns) e f g h =
 -- ---- one package
 
 module _ (list : ListTree) (files : List (List ℕ)) (judged : Judged) (is : IsSound list files judged) where
-  settled : (p : Package) → IsPackageOf list files p → (k : ℕ) (m : LaidMethod) → slice_get p.methods k ≡ Some m
+  files_of : (p : Package) → IsPackageByModesOf list files p → p.files ≡ judged.world
+  files_of p of = draft_files list files judged is p (package_is_draft list files p of)
+
+  settled : (p : Package) → IsPackageByModesOf list files p → (k : ℕ) (m : LaidMethod) → slice_get p.methods k ≡ Some m
       → IsSettled judged.world m
   unfolding IsSettled
   settled p of k m e =
       let w = of.is_package.methods k m e in (
-        w.is_abstract ∙ ap (λ fs. is_abstract_at fs m.member) (same_spelt list files judged is p.files of.rows
-            of.spelt),
+        w.is_abstract ∙ ap (λ fs. is_abstract_at fs m.member) (files_of p of),
         w.wide,
       )
 
-  image_of : (p : Package) → IsPackageOf list files p
+  image_of : (p : Package) → IsPackageByModesOf list files p
       → (let w = judged.world in IsImage judged.world (all_codes w.classes) p.image)
-  image_of p of = subst (λ (w : Files). IsImage w (all_codes w.classes) p.image) (same_spelt list files judged is
-      p.files of.rows of.spelt) of.is_package.image
+  image_of p of = subst (λ (w : Files). IsImage w (all_codes w.classes) p.image) (files_of p of) of.is_package.image
 
-  pub one_package : (p q : Package) → IsPackageOf list files p → IsPackageOf list files q → p ≡ q
+  members_of : (p : Package) → IsPackageByModesOf list files p
+      → map (λ m. m.member) p.methods ≡ method_order (all_classes judged.world)
+  members_of p of = same_members list files judged is p (files_of p of) of.is_package.members
+
+  pub one_package : (p q : Package) → IsPackageByModesOf list files p → IsPackageByModesOf list files q → p ≡ q
   one_package p q one other =
       let d = package_is_draft list files p one in
       let e = package_is_draft list files q other in
+      let has = draft_has list files judged is p d in
       let lists : p.list ≡ q.list = one.is_package.by_list ∙ sym other.is_package.by_list in
-      let worlds : p.files ≡ q.files = same_spelt list files judged is p.files one.rows one.spelt
-      ∙ sym (same_spelt list files judged is q.files other.rows other.spelt) in
+      let worlds : p.files ≡ q.files = files_of p one ∙ sym (files_of q other) in
       let images : p.image ≡ q.image = one-image judged.world (let w = judged.world in all_codes w.classes) p.image
       q.image (image_of p one) (image_of q other) in
       let methods : p.methods ≡ q.methods =
       methods_same judged.world p.methods q.methods
-      (same_members list files judged is p d ∙ sym (same_members list files judged is q e))
-      (same_narrow list files judged is p d ∙ sym (same_narrow list files judged is q e))
+      (members_of p one ∙ sym (members_of q other))
+      (same_narrow list files judged is one.tables has p d ∙ sym (same_narrow list files judged is one.tables has q e))
       (settled p one) (settled q other) in
       ap (λ v. record { list = v; files = p.files; image = p.image; methods = p.methods }) lists
       ∙ ap (λ v. record { list = q.list; files = v; image = p.image; methods = p.methods }) worlds

@@ -6,8 +6,8 @@ use Rattle.std.proofs.lemmas.Option.{slice_get_within}
 use Rattle.cjc_exported.specs.ClassFile.declared.tree.ClassTree.{ClassTree}
 use Rattle.cjc_methods.specs.ClassOrder.Classes.Numbers.{class_count, declared_at}
 use Rattle.cjc_methods.proofs.ClassOrderDeclared.{order_declared}
-use Rattle.cjc_methods.specs.Ready.{IsOwn}
-use Rattle.cjc_methods.proofs.Ownership.{ordered_own}
+use Rattle.cjc_methods.specs.Ready.{IsListed, IsOwn}
+use Rattle.cjc_methods.proofs.Ownership.{ordered_listed, ordered_own}
 use Rattle.cjc_narrow_proof.proofs.VTableNumbers.{own_listed}
 use Rattle.cjc_exported.specs.World.Classes.{Class, all_classes, class_at, declared}
 use Rattle.cjc_exported.specs.World.Files.{Files}
@@ -35,4 +35,9 @@ module _ (files : Files) (listed : length files.classes ≤ class_count files.li
 
   pub all_own : All (IsOwn files) (method_order (all_classes files))
   all_own = ordered_own files (map (λ c. c.number) (in_order (all_classes files) false))
+      (all_numbered (in_order (all_classes files) false) (order_declared files false))
+
+  -- none of them is an initialiser
+  pub all_listed : All (IsListed files) (method_order (all_classes files))
+  all_listed = ordered_listed files (map (λ c. c.number) (in_order (all_classes files) false))
       (all_numbered (in_order (all_classes files) false) (order_declared files false))

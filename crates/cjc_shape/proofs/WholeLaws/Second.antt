@@ -11,9 +11,8 @@ use Rattle.cjc_exported.specs.Bytes.declared.fault.Fault.{Fault}
 use Rattle.cjc_exported.specs.Bytes.declared.fault.Fault.TheVariants as faults
 use Rattle.cjc_exported.specs.Components.ExportFile.{export_of}
 use Rattle.cjc_exported.specs.Components.Descriptor.{method_in}
-use Rattle.cjc_exported.specs.Components.Limits.{code_breaks, else_of, form_breaks, has_many_words, in_class}
-use Rattle.cjc_exported.specs.Components.Limits.{int_breaks, layout_breaks, limit_breaks, method_spot, of_methods}
-use Rattle.cjc_exported.specs.Components.Limits.{size_breaks, spot_of_list, word_breaks}
+use Rattle.cjc_exported.specs.Components.Limits.{else_of, form_breaks, has_many_words, in_class, layout_breaks}
+use Rattle.cjc_exported.specs.Components.Limits.{method_spot, of_methods, spot_of_list, word_breaks}
 use Rattle.cjc_exported.specs.Components.Package.{LaidMethod, Package, codes, pool, world}
 use Rattle.cjc_narrow_proof.specs.ExportFile.Written.{constants}
 use Rattle.cjc_judge.specs.declared.judged.Judged.{Judged}
@@ -30,16 +29,17 @@ use Rattle.cjc_narrow_proof.specs.NCode.declared.narrow.NMethod.{NMethod}
 use Rattle.cjc_shape.specs.Prepared.{IsSound, tested}
 use Rattle.cjc_exported.specs.World.declared.found.Found.{Found}
 use Rattle.cjc_exported.specs.World.declared.image.StaticImage.{StaticImage}
-use Rattle.cjc_exported.specs.World.Classes.{Class, Member, all_classes, class_at}
+use Rattle.cjc_exported.specs.World.Classes.{Class, all_classes, class_at}
 use Rattle.cjc_exported.specs.World.Files.{Files}
 use Rattle.cjc_exported.specs.World.Order.{method_order}
-use Rattle.cjc_shape.specs.Whole.Conversion.{AreShort, BreaksWritten, HasModes, IsDraft, IsPackageOf, TellsIntMode}
-use Rattle.cjc_shape.specs.Whole.Conversion.{code_breaks_where, int_breaks_where, of_form, of_size}
+use Rattle.cjc_shape.specs.Whole.Conversion.{AreShort, BreaksWritten, HasModes, IsDraft, IsPackageByModesOf}
+use Rattle.cjc_shape.specs.Whole.Conversion.{of_form, of_size}
 use Rattle.cjc_shape.specs.Whole.Working.Shaped.{Stopped}
 use Rattle.cjc_shape.proofs.PreparedLaws.Sound.{are_ready}
-use Rattle.cjc_shape.proofs.WholeLaws.Drafts.{draft, is_draft, narrow_codes, owned, same_members, same_narrow}
-use Rattle.cjc_shape.proofs.WholeLaws.Drafts.{same_spelt}
-use Rattle.cjc_shape.proofs.WholeLaws.Modes.{member_short, modes_count, one_tells, tables_told}
+use Rattle.cjc_shape.proofs.WholeLaws.Codes.{draft, draft_files, draft_has, is_draft, narrow_codes, package_is_draft}
+use Rattle.cjc_shape.proofs.WholeLaws.Codes.{same_narrow}
+use Rattle.cjc_shape.proofs.WholeLaws.Drafts.{owned, same_members}
+use Rattle.cjc_shape.proofs.WholeLaws.Modes.{member_short, modes_count, tables_told}
 use Rattle.cjc_methods.proofs.BytesBrokenRules.{no_among}
 
 -- ---- what rules on methods go by
@@ -115,15 +115,6 @@ else_same xs bs cs ds e f = ap (λ ys. else_of ys cs) e ∙ ap (else_of bs) f
 pub both_none : (xs ys : List Break) → else_of xs ys ≡ [] → (xs ≡ []) × (ys ≡ [])
 both_none [] ys e = (refl, e)
 both_none (x ∷ xs) ys e = cc
-
-pub forms_of : (p : Package) → code_breaks p ≡ [] → form_breaks p ≡ []
-forms_of p none = (both_none (int_breaks p) (form_breaks p) none).1
-
-pub ints_of : (p : Package) → limit_breaks p ≡ [] → int_breaks p ≡ []
-ints_of p none =
-    let behind_words = both_none (of_methods p (word_breaks p)) (else_of (code_breaks p) (size_breaks p)) none in
-    let codes = both_none (code_breaks p) (size_breaks p) behind_words.1 in
-    (both_none (int_breaks p) (form_breaks p) codes.0).0
 
 module _ (list : ListTree) (files : Files) (members : List Found) (narrow : List NMethod) where
   pub words : List Break
@@ -213,153 +204,73 @@ module _ (list : ListTree) (files : Files) (members : List Found) (narrow : List
       ∙ ap (λ b. layouts ++ at (nat_lt 16383 (length (pool_order narrow))
       || nat_lt 16383 (length (constants (export_of b)))) (spot_of_list b) 414) (based p is)
 
-  pub ints : List Break
-  ints = int_breaks (base list files)
-
-  pub ints_are : (p : Package) → Is p → int_breaks p ≡ ints
-  unfolding ints base
-  ints_are p is = ap int_breaks (based p is)
-
-  unfoldable pub coded : List Break
-  coded = else_of ints forms
-
-  pub coded_are : (p : Package) → Is p → code_breaks p ≡ coded
-  unfolding coded
-  coded_are p is = else_same _ _ _ _ (ints_are p is) (forms_are p is)
-
-  -- by whether a method is in int mode
-  pub ints_where : Bool → List Break
-  ints_where b = int_breaks_where b (base list files)
-
-  pub ints_where_are : (b : Bool) (p : Package) → Is p → int_breaks_where b p ≡ ints_where b
-  unfolding ints_where base
-  ints_where_are b p is = ap (int_breaks_where b) (based p is)
-
-  unfoldable pub coded_where : Bool → List Break
-  coded_where b = else_of (ints_where b) forms
-
-  pub coded_where_are : (b : Bool) (p : Package) → Is p → code_breaks_where b p ≡ coded_where b
-  unfolding coded_where
-  coded_where_are b p is = else_same _ _ _ _ (ints_where_are b p is) (forms_are p is)
-
-  pub coded_short : coded_where false ≡ coded
-  unfolding coded_where coded ints_where ints
-  coded_short = refl
-
 -- ---- what is broken at the second level
-
-pub package_is_draft : (list : ListTree) (files : List (List ℕ)) (p : Package) → IsPackageOf list files p
-    → IsDraft list files p
-package_is_draft list files p is = record {
-  rows = is.rows;
-  spelt = is.spelt;
-  by_list = is.is_package.by_list;
-  members = is.is_package.members;
-  methods = λ k m e. let w = is.is_package.methods k m e in record { is_abstract = w.is_abstract; code = w.code };
-}
 
 module _ (list : ListTree) (files : List (List ℕ)) (judged : Judged) (is : IsSound list files judged) where
   abbrev pub fs : List Found
   fs = method_order (all_classes judged.world)
 
-  abbrev pub W : Tables → List Break
-  W t = mode_words list judged.world fs (narrow_codes list files judged is) t
-
-  abbrev pub F : (in_int_mode : Bool) → List Break
-  F b = coded_where list judged.world fs (narrow_codes list files judged is) b
-
-  pub is_base : (p : Package) → IsDraft list files p → Is list judged.world fs (narrow_codes list files judged is) p
-  is_base p d = record {
-    by_list = d.by_list;
-    by_files = same_spelt list files judged is p.files d.rows d.spelt;
-    by_members = same_members list files judged is p d;
-    by_codes = same_narrow list files judged is p d;
-  }
-
   own_at : (k : ℕ) (f : Found) → slice_get fs k ≡ Some f → IsOwn judged.world f
   own_at k f e = item_has (IsOwn judged.world) fs k f (owned list files judged is) e
 
-  -- 417 by any tables that are told, and that of a package without int mode
-  words_alike : (t u : Tables) → HasModes list.ints judged.world t → HasModes list.ints judged.world u → W t ≡ W u
-  words_alike t u has have = mode_words_same list judged.world fs (narrow_codes list files judged is) t u
-      (λ k f e. rooms_alike judged.world judged.codes judged.types judged.modes (are_ready list files judged is)
-      (modes_count list files judged is) f (own_at k f e) t u (tables_told list files judged is t has)
-      (tables_told list files judged is u have))
+  module _ (t : Tables) (has : HasModes list.ints judged.world t) where
+    abbrev pub W : List Break
+    W = mode_words list judged.world fs (narrow_codes list files judged is t has) t
 
-  pub words_short : AreShort list.ints judged.world → (t : Tables) → HasModes list.ints judged.world t
-      → W t ≡ words list judged.world fs (narrow_codes list files judged is)
-  words_short short t has = mode_words_none list judged.world fs (narrow_codes list files judged is) t
-      (λ k f e. no_lack t judged.world (method_at judged.world f) (member_short list files judged is t has short f
-      (own_at k f e)))
+    abbrev pub F : List Break
+    F = forms list judged.world fs (narrow_codes list files judged is t has)
 
-  -- of a draft none of whose methods is in int mode
-  pub no_words : (p q : Package) → IsDraft list files p → IsDraft list files q → AreShort list.ints p.files
-      → of_methods p (word_breaks p) ≡ [] → (t : Tables) → HasModes list.ints q.files t
-      → of_methods q (word_breaks_by_modes t q) ≡ []
-  no_words p q d e short none t has =
-      let n = narrow_codes list files judged is in
-      mode_words_are list judged.world fs n t q (is_base q e)
-      ∙ words_short (subst (λ w. AreShort list.ints w) (same_spelt list files judged is p.files d.rows d.spelt) short) t
-      (subst (λ w. HasModes list.ints w t) (same_spelt list files judged is q.files e.rows e.spelt) has)
-      ∙ sym (words_are list judged.world fs n p (is_base p d)) ∙ none
+    pub is_base : (p : Package) → IsDraft list files p
+        → Is list judged.world fs (narrow_codes list files judged is t has) p
+    is_base p d = record {
+      by_list = d.by_list;
+      by_files = draft_files list files judged is p d;
+      by_members = same_members list files judged is p (draft_files list files judged is p d) d.members;
+      by_codes = same_narrow list files judged is t has p d;
+    }
 
-  pub no_codes : (p q : Package) → IsDraft list files p → IsDraft list files q → AreShort list.ints p.files
-      → code_breaks p ≡ [] → (b : Bool) → TellsIntMode list.ints q.files b → code_breaks_where b q ≡ []
-  no_codes p q d e short none b tells =
-      let n = narrow_codes list files judged is in
-      let here : b ≡ false = one_tells list.ints judged.world b false
-      (subst (λ w. TellsIntMode list.ints w b) (same_spelt list files judged is q.files e.rows e.spelt) tells)
-      (subst (λ w. AreShort list.ints w) (same_spelt list files judged is p.files d.rows d.spelt) short) in
-      coded_where_are list judged.world fs n b q (is_base q e)
-      ∙ ap (λ x. F x) here
-      ∙ coded_short list judged.world fs n
-      ∙ sym (coded_are list judged.world fs n p (is_base p d)) ∙ none
+    -- 417 by any tables that are told
+    words_alike : (u : Tables) → HasModes list.ints judged.world u
+        → mode_words list judged.world fs (narrow_codes list files judged is t has) u ≡ W
+    words_alike u have = mode_words_same list judged.world fs (narrow_codes list files judged is t has) u t
+        (λ k f e. rooms_alike judged.world judged.codes judged.types judged.modes (are_ready list files judged is)
+        (modes_count list files judged is) f (own_at k f e) u t (tables_told list files judged is u have)
+        (tables_told list files judged is t has))
 
-  module _ (u : Tables) (have : HasModes list.ints judged.world u) (here : Bool)
-      (tells : TellsIntMode list.ints judged.world here) where
-    both : (p : Package) → IsDraft list files p → (t : Tables) → HasModes list.ints p.files t → (b : Bool)
-        → TellsIntMode list.ints p.files b
-        → else_of (of_methods p (word_breaks_by_modes t p)) (code_breaks_where b p) ≡ else_of (W u) (F here)
-    both p d t has b told =
-        let n = narrow_codes list files judged is in
-        let same = same_spelt list files judged is p.files d.rows d.spelt in
-        else_same _ _ _ _
-        (mode_words_are list judged.world fs n t p (is_base p d)
-        ∙ words_alike t u (subst (λ w. HasModes list.ints w t) same has) have)
-        (coded_where_are list judged.world fs n b p (is_base p d)
-        ∙ ap (λ x. F x) (one_tells list.ints judged.world b here (subst (λ w. TellsIntMode list.ints w b) same told)
-        tells))
+    pub draft_words : (p : Package) (d : IsDraft list files p) → of_methods p (word_breaks_by_modes d.tables p) ≡ W
+    draft_words p d =
+        mode_words_are list judged.world fs (narrow_codes list files judged is t has) d.tables p (is_base p d)
+        ∙ words_alike d.tables (draft_has list files judged is p d)
 
-    abbrev d : Package
-    d = draft list files judged is
+    pub draft_forms : (p : Package) → IsDraft list files p → form_breaks p ≡ F
+    draft_forms p d = forms_are list judged.world fs (narrow_codes list files judged is t has) p (is_base p d)
 
-    abbrev of_draft : IsDraft list files d
-    of_draft = is_draft list files judged is
+    -- where no method is in int mode, it is that of arguments alone
+    pub words_short : AreShort list.ints judged.world → W ≡ words list judged.world fs
+        (narrow_codes list files judged is t has)
+    words_short short = mode_words_none list judged.world fs (narrow_codes list files judged is t has) t
+        (λ k f e. no_lack t judged.world (method_at judged.world f) (member_short list files judged is t has short f
+        (own_at k f e)))
 
-    draft_has : HasModes list.ints d.files u
-    draft_has = subst (λ w. HasModes list.ints w u) (sym (same_spelt list files judged is d.files of_draft.rows
-        of_draft.spelt)) have
+    both : (p : Package) (d : IsDraft list files p)
+        → else_of (of_methods p (word_breaks_by_modes d.tables p)) (form_breaks p) ≡ else_of W F
+    both p d = else_same _ _ _ _ (draft_words p d) (draft_forms p d)
 
-    draft_tells : TellsIntMode list.ints d.files here
-    draft_tells = subst (λ w. TellsIntMode list.ints w here) (sym (same_spelt list files judged is d.files of_draft.rows
-        of_draft.spelt)) tells
+    -- a package that is laid out breaks none of these
+    pub none_of_form : (p : Package) (of : IsPackageByModesOf list files p)
+        → of_methods p (word_breaks_by_modes of.tables p) ≡ [] → form_breaks p ≡ [] → else_of W F ≡ []
+    none_of_form p of none fine = sym (both p (package_is_draft list files p of)) ∙ else_same _ [] _ [] none fine
 
-    only : (b a : Break) → Among b (else_of (W u) (F here)) → BreaksWritten list files a → Among a (else_of (W u)
-        (F here))
-    only b a some (of_form p e t has x told among) = subst (λ bs. Among a bs) (both p e t has x told) among
-    only b a some (of_size p of none fine among) =
-        let e = package_is_draft list files p of in
-        let empty : else_of (W u) (F here) ≡ [] =
-        sym (both d of_draft u draft_has here draft_tells)
-        ∙ else_same _ [] _ [] (no_words p d e of_draft of.short none u draft_has)
-        (no_codes p d e of_draft of.short fine here draft_tells) in
-        absurd (no_among b (subst (λ bs. Among b bs) empty some))
+    only : (b a : Break) → Among b (else_of W F) → BreaksWritten list files a → Among a (else_of W F)
+    only b a some (of_form p e among) = subst (λ bs. Among a bs) (both p e) among
+    only b a some (of_size p of none fine among) = absurd (no_among b (subst (λ bs. Among b bs)
+        (none_of_form p of none fine) some))
 
-    first_of : (b : Break) → IsFirst b (else_of (W u) (F here))
+    first_of : (d : Package) (of_draft : IsDraft list files d) (b : Break) → IsFirst b (else_of W F)
         → IsFirstOf (OnLevels (Breach list files tested) (BreaksWritten list files)) b
-    first_of b first = record {
-      breaks = on_second is.judged_by.unbroken (of_form d of_draft u draft_has here draft_tells
-          (subst (λ bs. Among b bs) (sym (both d of_draft u draft_has here draft_tells)) first.among));
+    first_of d of_draft b first = record {
+      breaks = on_second is.judged_by.unbroken (of_form d of_draft (subst (λ bs. Among b bs) (sym (both d of_draft))
+          first.among));
       least = by;
     }
       where
@@ -367,14 +278,14 @@ module _ (list : ListTree) (files : List (List ℕ)) (judged : Judged) (is : IsS
         by a (on_first breach) = absurd (is.judged_by.unbroken a breach)
         by a (on_second none written) = first.least a (only b a first.among written)
 
-    -- the first of rules 417, 801, 311, 414 and 415
-    pub form_refused : (e : Fault) → IsFirstRefusal (else_of (W u) (F here)) e → Stopped list files e
+    -- the first of rules 417, 311, 414 and 415
+    pub form_refused : (e : Fault) → IsFirstRefusal (else_of W F) e → Stopped list files e
     form_refused e (inl memory) = inl memory
     form_refused e (inr (b, first, is_refused)) = inr (
       b.refusal,
       record {
         broken = b;
-        first = first_of b first;
+        first = first_of (draft list files judged is t has) (is_draft list files judged is t has) b first;
         is = refl;
       },
       is_refused,

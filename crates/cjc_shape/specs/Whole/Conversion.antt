@@ -1,8 +1,8 @@
 -- Which package a list and the files that it names are, and which rule that speaks of what is written for it they break
 -- first.
-use Rattle.std.specs.Prelude.{◌≡◌, ℕ, Bool, true, false, ◌||◌, List, [], map, slice_get, Option, Some}
+use Rattle.std.specs.Prelude.{◌≡◌, ℕ, Bool, false, List, [], map, slice_get, Option, Some}
 use Rattle.std.specs.List.{Contains}
-use Rattle.cjc_exported.specs.Bytes.Breaks.{Break, Among, at}
+use Rattle.cjc_exported.specs.Bytes.Breaks.{Break, Among}
 use Rattle.cjc_exported.specs.Bytes.declared.fault.MemberId.{MemberId}
 use Rattle.cjc_exported.specs.Bytes.declared.fault.Refusal.{Refusal}
 use Rattle.cjc_methods.specs.JvmSemantics.Linked.{Method}
@@ -12,14 +12,14 @@ use Rattle.cjc_exported.specs.ClassFile.declared.tree.ClassTree.{ClassTree}
 use Rattle.cjc_exported.specs.ClassFile.declared.tree.MethodTree.{MethodTree}
 use Rattle.cjc_methods.specs.Bytecode.PackageCodes.{all_codes}
 use Rattle.cjc_methods.specs.Bytecode.declared.method_code.MethodCode.{MethodCode}
-use Rattle.cjc_exported.specs.Components.Limits.{code_breaks, else_of, form_breaks, has_int_code, of_methods}
-use Rattle.cjc_exported.specs.Components.Limits.{size_breaks, spot_of_list, word_breaks}
+use Rattle.cjc_exported.specs.Components.Limits.{else_of, form_breaks, of_methods, size_breaks}
 use Rattle.cjc_exported.specs.Components.Package.{LaidMethod, Package, pool}
-use Rattle.cjc_exported.specs.Components.Written.{IsPackage, code_at, is_abstract_at}
+use Rattle.cjc_exported.specs.Components.Written.{IsPackage, is_abstract_at}
 use Rattle.cjc_methods.specs.LowerIntPackage.Limits.{word_breaks_by_modes}
 use Rattle.cjc_methods.specs.LowerIntPackage.LowerIntMode.declared.modes.Mode.TheVariants as modes
 use Rattle.cjc_methods.specs.LowerIntPackage.Modes.{AreModes, Tables}
 use Rattle.cjc_methods.specs.LowerIntPackage.Modes as by_modes
+use Rattle.cjc_methods.specs.LowerIntPackage.Written.{IsPackageByModes, code_by_mode_at}
 use Rattle.cjc_judge.specs.OutOfRange.{IsModeBy}
 use Rattle.cjc_judge.specs.Rules.{AreWorld, Breach, IsFirstRefused, OnLevels, files_spelt}
 use Rattle.cjc_judge.specs.Spelt.{FileTree}
@@ -52,21 +52,6 @@ pub record IsSpeltBy (list : ListTree) (files : List (List ℕ)) (world : Files)
   pub world_is : world ≡ files_spelt list trees
   pub least : AreLeast world rows
 
--- A method by its narrow code in short mode, whatever its layout.
-pub record IsSelected (files : Files) (near : List MemberId) (rows : Method → List (Option State)) (m : LaidMethod) :
-    Type 0 where
-  pub is_abstract : m.is_abstract ≡ is_abstract_at files m.member
-  pub code : m.code ≡ code_at files near rows m.member
-
--- The package of a list and its files by the narrow code of its methods in short mode, before these are laid out.
-pub record IsDraft (list : ListTree) (files : List (List ℕ)) (p : Package) : Type 0 where
-  pub rows : Method → List (Option State)
-  pub spelt : IsSpeltBy list files p.files rows
-  pub by_list : p.list ≡ list
-  pub members : map (λ m. m.member) p.methods ≡ method_order (all_classes p.files)
-  pub methods : (k : ℕ) (m : LaidMethod) → slice_get p.methods k ≡ Some m
-      → IsSelected p.files (near_fields (pool p)) rows m
-
 -- ---- modes
 
 -- No method of these files that is written is in int mode, where `ints` says whether the list has the line `int`.
@@ -76,15 +61,36 @@ AreShort ints files =
     → Contains (all_codes files.classes) code → IsMethodOf files code class method tree
     → is_initialiser method.name ≡ false → IsModeBy ints files (body_of class method tree code.insns) modes.Short
 
--- whether a method of these files that is written is in int mode
-abbrev pub TellsIntMode : (ints : Bool) → Files → Bool → Type 0
-TellsIntMode ints files true = AreShort ints files → ⊥
-TellsIntMode ints files false = AreShort ints files
-
 -- The least tables of the methods of these files, and their modes.
 pub record HasModes (ints : Bool) (files : Files) (t : Tables) : Type 0 where
   pub least : by_modes.AreLeast files t
   pub modes : AreModes ints files t
+
+-- ---- the package by modes
+
+-- A method by its narrow code, which is that of its mode, whatever its layout.
+pub record IsSelected (files : Files) (near : List MemberId) (t : Tables) (m : LaidMethod) : Type 0 where
+  pub is_abstract : m.is_abstract ≡ is_abstract_at files m.member
+  pub code : m.code ≡ code_by_mode_at files near t m.member
+
+-- The package of a list and its files by the narrow code of its methods, each by its mode, before these are laid out.
+pub record IsDraft (list : ListTree) (files : List (List ℕ)) (p : Package) : Type 0 where
+  pub tables : Tables
+  pub spelt : IsSpeltBy list files p.files tables.types
+  pub has : HasModes list.ints p.files tables
+  pub by_list : p.list ≡ list
+  pub members : map (λ m. m.member) p.methods ≡ method_order (all_classes p.files)
+  pub methods : (k : ℕ) (m : LaidMethod) → slice_get p.methods k ≡ Some m
+      → IsSelected p.files (near_fields (pool p)) tables m
+
+-- The package of a list and its files, whose methods are laid out, each written by its mode.
+pub record IsPackageByModesOf (list : ListTree) (files : List (List ℕ)) (p : Package) : Type 0 where
+  pub tables : Tables
+  pub spelt : IsSpeltBy list files p.files tables.types
+  pub has : HasModes list.ints p.files tables
+  pub is_package : IsPackageByModes list p.files (all_codes (let w = p.files in w.classes)) tables p
+
+-- ---- the package without int mode
 
 -- The package of a list and its files, whose methods are laid out, and none of them in int mode.
 pub record IsPackageOf (list : ListTree) (files : List (List ℕ)) (p : Package) : Type 0 where
@@ -95,23 +101,13 @@ pub record IsPackageOf (list : ListTree) (files : List (List ℕ)) (p : Package)
 
 -- ---- rules that speak of what is written
 
--- 801: a method that is written is in int mode, or code works on int
-abbrev pub int_breaks_where : (in_int_mode : Bool) → Package → List Break
-int_breaks_where in_int_mode p = at (in_int_mode || has_int_code p) (spot_of_list p) 801
-
--- 801, or 311, 414 and 415
-abbrev pub code_breaks_where : (in_int_mode : Bool) → Package → List Break
-code_breaks_where in_int_mode p = else_of (int_breaks_where in_int_mode p) (form_breaks p)
-
--- 417, by the modes of methods; where none breaks that, 801; where that is unbroken, and so no method is in int mode,
--- 311, 414 and 415; where nothing breaks these, 411 and 416.
+-- 417, by the modes of methods; where no method breaks that, 311, 414 and 415; where nothing breaks these, 411 and 416.
 pub data BreaksWritten (list : ListTree) (files : List (List ℕ)) (b : Break) : Type 0 where
-  of_form : (p : Package) → IsDraft list files p → (t : Tables) → HasModes list.ints p.files t → (in_int_mode : Bool)
-      → TellsIntMode list.ints p.files in_int_mode
-      → Among b (else_of (of_methods p (word_breaks_by_modes t p)) (code_breaks_where in_int_mode p))
+  of_form : (p : Package) (is : IsDraft list files p)
+      → Among b (else_of (of_methods p (word_breaks_by_modes is.tables p)) (form_breaks p)) → BreaksWritten list files b
+  of_size : (p : Package) (is : IsPackageByModesOf list files p)
+      → of_methods p (word_breaks_by_modes is.tables p) ≡ [] → form_breaks p ≡ [] → Among b (size_breaks p)
       → BreaksWritten list files b
-  of_size : (p : Package) → IsPackageOf list files p → of_methods p (word_breaks p) ≡ [] → code_breaks p ≡ []
-      → Among b (size_breaks p) → BreaksWritten list files b
 
 -- The refusal is that of the first rule that the files break, or where they break none, that what is written for them
 -- does.

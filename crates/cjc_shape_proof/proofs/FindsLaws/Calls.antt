@@ -27,15 +27,14 @@ use Rattle.cjc_components.specs.Bytecode.declared.insn.JOp.TheVariants as jop
 use Rattle.cjc_components.specs.Bytecode.declared.method_code.MethodCode.{MethodCode}
 use Rattle.cjc_shape_proof.specs.Finds.{IsNamedMethod, IsReceiverFound, IsStaticFound, IsUsable}
 use Rattle.cjc_shape_proof.specs.Whole.{Accepts}
-use Rattle.cjc_shape_proof.specs.Written.Checked.{KeepsNames}
 use Rattle.cjc_shape_proof.proofs.FindsLaws.Callees.{result_there}
 use Rattle.cjc_shape_proof.proofs.FindsLaws.Descs.{member_desc, parts_are}
 use Rattle.cjc_shape_proof.proofs.FindsLaws.Receivers.{named_of, receiver_of}
 use Rattle.cjc_narrow_proof.specs.Laws.Calls.{CallFits}
-use Rattle.cjc_shape_proof.proofs.WrittenLaws.Insns.{call_fits, op_fit, op_there}
-use Rattle.cjc_narrow_proof.specs.Laws.Unbroken.{AreSpelt, IsInsnOf}
+use Rattle.cjc_narrow_proof.proofs.LawsLaws.Calls.{call_fits}
+use Rattle.cjc_narrow_proof.specs.Laws.Unbroken.{AreSpelt, IsInsnOf, KeepsNames}
 use Rattle.cjc_narrow_proof.proofs.LawsLaws.Handlers.{class_there}
-use Rattle.cjc_narrow_proof.proofs.LawsLaws.Instructions.{method_there}
+use Rattle.cjc_narrow_proof.proofs.LawsLaws.Instructions.{method_there, op_fit, op_there}
 use Rattle.cjc_narrow_proof.proofs.LawsLaws.Own.{class_by_name, own_kept}
 use Rattle.cjc_narrow_proof.specs.Runs.Calls.{above_holder, by_interface, itself, on_class}
 use Rattle.cjc_narrow_proof.specs.NCode.ByLabel.{Named}

@@ -33,11 +33,9 @@ use Rattle.cjc_components.specs.Bytecode.declared.method_code.MethodCode.{Method
 use Rattle.cjc_world.specs.ExportFile.Members.{is_constant_type, may_be_constant}
 use Rattle.cjc_shape_proof.proofs.FindsLaws.Descs.{read_of}
 use Rattle.cjc_shape_proof.proofs.FindsLaws.Receivers.{made_class, named_of, plain_class, receiver_of}
-use Rattle.cjc_shape_proof.proofs.WrittenLaws.Insns.{op_fit, op_there}
 use Rattle.cjc_shape_proof.specs.Finds.{IsFieldFound, IsUsable}
-use Rattle.cjc_shape_proof.specs.Written.Checked.{KeepsNames}
-use Rattle.cjc_narrow_proof.specs.Laws.Unbroken.{IsInsnOf}
-use Rattle.cjc_narrow_proof.proofs.LawsLaws.Instructions.{field_there}
+use Rattle.cjc_narrow_proof.specs.Laws.Unbroken.{IsInsnOf, KeepsNames}
+use Rattle.cjc_narrow_proof.proofs.LawsLaws.Instructions.{field_there, op_fit, op_there}
 use Rattle.cjc_narrow_proof.proofs.LawsLaws.WordTypes.{type_values, type_word}
 use Rattle.cjc_narrow_proof.specs.Runs.Names.{IsWordField}
 use Rattle.cjc_classes.specs.Narrow.Rows.Package.{named}

@@ -26,13 +26,13 @@ use Rattle.cjc_world.specs.ClassFile.declared.tree.ClassTree.{ClassTree}
 use Rattle.cjc_world.specs.ClassFile.declared.tree.MethodTree.{MethodTree}
 use Rattle.cjc_components.specs.Bytecode.declared.method_code.MethodCode.{MethodCode}
 use Rattle.cjc_shape_proof.specs.Finds.{IsMemberFound, IsScriptFound, IsUsable, finds_member, finds_none}
-use Rattle.cjc_shape_proof.specs.Written.Checked.{KeepsNames}
 use Rattle.cjc_shape_proof.proofs.FindsLaws.Callees.{params_there}
 use Rattle.cjc_shape_proof.proofs.FindsLaws.Descs.{parts_are, read_of}
 use Rattle.cjc_shape_proof.proofs.FindsLaws.Receivers.{receiver_of}
 use Rattle.cjc_narrow_proof.proofs.LawsLaws.Own.{class_by_name, own_kept}
 use Rattle.cjc_check_proof.proofs.WorldProofRules.{method_kept}
 use Rattle.cjc_classes.specs.Narrow.Rows.Package.{named}
+use Rattle.cjc_narrow_proof.specs.Laws.Unbroken.{KeepsNames}
 use Rattle.cjc_narrow_proof.specs.Runs.Types.{IsThere}
 use Rattle.cjc_narrow_proof.specs.NCode.ByLabel.{Named}
 use Rattle.cjc_narrow_proof.specs.NCode.declared.narrow.NMethod.{NMethod}
@@ -107,8 +107,8 @@ pub called_plain : (files : Files) (w : List Class) (id : MemberId) (m : Method)
 called_plain files w id m e = not_far (is_initialiser id.name) (option_and_then (entry_in files id)
     (class_named w id.class)) m e
 
-pub sent_plain : (files : Files) (w : List Class) (type : List ℕ) (id : MemberId) (m : Method) → sent_named files w type id
-    ≡ Some m → is_initialiser id.name ≡ false
+pub sent_plain : (files : Files) (w : List Class) (type : List ℕ) (id : MemberId) (m : Method)
+    → sent_named files w type id ≡ Some m → is_initialiser id.name ≡ false
 sent_plain files w type id m e =
     let one = then_some (λ f. option_and_then (sent_by files w (select_in w) type id) (method_hit w f))
     (find_method w id.class id.name id.desc) m e in

@@ -1,7 +1,6 @@
 -- What is found in a package in which no method works on int: what is named is of types of one word each, and the
 -- methods of the package that are reached have tables.
 use Rattle.std.proofs.Common.{◌≡◌, ℕ, sym, ap, ◌∙◌, Bool, true, false, List, ⊎_elim}
-use Rattle.std.specs.Prelude.{Some}
 use Rattle.std.specs.List.{list_all}
 use Rattle.cjc_bytes.specs.declared.fault.MemberId.{MemberId}
 use Rattle.cjc_bytes.specs.declared.settings.Settings.{Settings}
@@ -26,16 +25,15 @@ use Rattle.cjc_narrow_proof.specs.Runs.Calls.{IsCallee, IsReceiverOn, IsStaticOn
 use Rattle.cjc_narrow_proof.specs.Runs.Converted.{IsFound, IsMember, a_member, no_method}
 use Rattle.cjc_narrow_proof.specs.Runs.Names.{IsFieldOf}
 use Rattle.cjc_narrow_proof.specs.Runs.Tables.{Tables, look_ups, narrow_codes}
-use Rattle.cjc_narrow_proof.specs.Script.Sorts.{Shape, shape_name}
-use Rattle.cjc_narrow_proof.specs.Selection.Relation.{IsMadeOf}
+use Rattle.cjc_narrow_proof.specs.Script.Sorts.{shape_name}
 use Rattle.cjc_narrow_proof.specs.Tables.Calls.{IsWordDesc}
+use Rattle.cjc_narrow_proof.proofs.LawsLaws.Instructions.{kept_names}
 use Rattle.cjc_narrow_proof.proofs.LawsLaws.OwnTypes.{called_word_desc}
 use Rattle.cjc_narrow_proof.proofs.LawsLaws.WordTypes.{word_desc}
-use Rattle.cjc_narrow_proof.proofs.SelectedLaws.IntFree.{code_free, op_free, own_desc}
-use Rattle.cjc_shape_proof.specs.Finds.{IsFieldFound, IsMemberFound, IsNamedMethod, IsReceiverFound, IsScriptFound}
-use Rattle.cjc_shape_proof.specs.Finds.{IsStaticFound, finds_member, finds_none}
+use Rattle.cjc_narrow_proof.proofs.SelectedLaws.IntFree.{op_free, own_desc}
+use Rattle.cjc_shape_proof.specs.Finds.{IsMemberFound, IsNamedMethod, IsReceiverFound, IsScriptFound}
+use Rattle.cjc_shape_proof.specs.Finds.{finds_member, finds_none}
 use Rattle.cjc_shape_proof.specs.Whole.{Accepts, AreTabled}
-use Rattle.cjc_shape_proof.specs.Written.Checked.{KeepsNames}
 use Rattle.cjc_shape_proof.proofs.FindsLaws.Begun.{begun, chosen, reached}
 use Rattle.cjc_shape_proof.proofs.FindsLaws.Calls.{interface_call, special_call, static_call, virtual_call}
 use Rattle.cjc_shape_proof.proofs.FindsLaws.Fields.{field_is, word_field}
@@ -46,10 +44,6 @@ use Rattle.cjc_world.specs.Files.{Files}
 use Rattle.cjc_world.specs.Lookup.{object}
 use Rattle.cjc_world.specs.Subtype.{is_subtype}
 use Rattle.cjc_world.specs.declared.image.StaticImage.{StaticImage}
-
-pub kept_names : {list : List ℕ} {files : Files} {codes : List MethodCode} {settings : Settings}
-    → IsUnbroken list files codes settings → KeepsNames list files codes settings
-kept_names is = record { listed = is.listed; world = is.world; names = is.names; checks = is.checks }
 
 module _ (list : List ℕ) (files : Files) (codes : List MethodCode) (settings : Settings) (is : IsUnbroken list files
     codes settings) (spelt : AreSpelt files) (read : AreReadFiles files) (solid : IsSolid files)
@@ -173,8 +167,8 @@ module _ (list : List ℕ) (files : Files) (codes : List MethodCode) (settings :
       let k = code.method in
       let h = tabled.own code.class k code.tree code.own (ap is_initialiser code.name ∙ plain) code.is_code in
       let same : k.desc ≡ (let n = h.method in n.desc) = ap (λ (x : Method). let i = x.id in i.desc) h.is in
-      let free = own_desc files h.code h.class h.method h.tree h.of_package (code_free files codes is.no_int h.code
-      h.listed) in
+      let free = own_desc files h.code h.class h.method h.tree h.of_package (is.no_int h.code h.class h.method h.tree
+      h.listed h.of_package h.written) in
       ap is_int_desc (sym code.desc ∙ same) ∙ free
 
   member_is : (id : MemberId) → IsMemberFound files l id → is_int_desc id.desc ≡ false → IsMember files l tables id

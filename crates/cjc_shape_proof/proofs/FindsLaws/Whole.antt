@@ -68,8 +68,8 @@ module _ (list : List ℕ) (files : Files) (codes : List MethodCode) (settings :
 
     pub static_is : (class : ClassTree) (id : MemberId) → IsInsnOf files codes class (jop.Call 0xB8 id)
         → IsStaticOn files tables id
-    static_is class id at = short.static_is list files codes settings whole.unbroken spelt whole.read is_solid root_is image
-        near tables whole.tabled class id at
+    static_is class id at = short.static_is list files codes settings whole.unbroken spelt whole.read is_solid root_is
+        image near tables whole.tabled class id at
 
     pub virtual_is : (b : Body) (stack : List Cell) (class : ClassTree) (id : MemberId)
         → IsInsnOf files codes class (jop.Call 0xB6 id) → Accepts files b 0xB6 id stack
@@ -86,12 +86,12 @@ module _ (list : List ℕ) (files : Files) (codes : List MethodCode) (settings :
     pub special_is : (b : Body) (stack : List Cell) (class : ClassTree) (id : MemberId) → b.class ≡ class.name
         → IsInsnOf files codes class (jop.Call 0xB7 id) → Accepts files b 0xB7 id stack
         → IsReceiverOn files (look_ups files image near tables) tables class.name stack 0xB7 id
-    special_is b stack class id is_holder at accepts_one = short.special_is list files codes settings whole.unbroken spelt
-        whole.read is_solid root_is image near tables whole.tabled b stack class id is_holder at accepts_one
+    special_is b stack class id is_holder at accepts_one = short.special_is list files codes settings whole.unbroken
+        spelt whole.read is_solid root_is image near tables whole.tabled b stack class id is_holder at accepts_one
 
     pub scripts_find : (id : MemberId) → IsFound files (look_ups files image near tables) tables id
-    scripts_find id = short.found_is list files codes settings whole.unbroken spelt whole.read is_solid root_is image near
-        tables whole.tabled id
+    scripts_find id = short.found_is list files codes settings whole.unbroken spelt whole.read is_solid root_is image
+        near tables whole.tabled id
 
     pub fields_are : (class : ClassTree) (put : Bool) (id : MemberId) → IsInsnOf files codes class (jop.Field put id)
         → (cell : Cell) → HoldsFor files id.class cell → (m : Method) → (f : MemberId)

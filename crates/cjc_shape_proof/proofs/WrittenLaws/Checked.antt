@@ -27,7 +27,7 @@ use Rattle.cjc_components.specs.Package.{Package, world}
 use Rattle.cjc_narrow_proof.proofs.BytecodeMembers.{read_class}
 use Rattle.cjc_narrow_proof.proofs.LawsLaws.ClassNames.{each_name}
 use Rattle.cjc_narrow_proof.proofs.TablesLaws.Spelt.{class_read}
-use Rattle.cjc_narrow_proof.specs.Laws.Unbroken.{AreSpelt}
+use Rattle.cjc_narrow_proof.specs.Laws.Unbroken.{AreSpelt, KeepsNames}
 use Rattle.cjc_narrow_proof.specs.Script.Sorts.{Shape, shape_name}
 use Rattle.cjc_shape.specs.LowerJudge.Rules.{has_applets, settings_of}
 use Rattle.cjc_vtable.specs.Kept.{AreRead, BreaksNone, IsKept}
@@ -41,7 +41,7 @@ use Rattle.cjc_world.specs.Lookup.{object}
 use Rattle.cjc_world.specs.Rules.{breaks}
 use Rattle.cjc_world.specs.Subtype.{is_subtype, starts}
 use Rattle.cjc_world.specs.Upwards.{IsOrdered}
-use Rattle.cjc_shape_proof.specs.Written.Checked.{IsChecked, KeepsNames}
+use Rattle.cjc_shape_proof.specs.Written.Checked.{IsChecked}
 use Rattle.cjc_shape_proof.proofs.WrittenLaws.FittingLaws.Arrays.{arrays_fit}
 use Rattle.cjc_shape_proof.proofs.WrittenLaws.FittingLaws.Initialisers.{stand_once}
 use Rattle.cjc_shape_proof.proofs.WrittenLaws.FittingLaws.Values.{values_fit}

@@ -302,6 +302,29 @@ module _ (list : ListTree) (codes : List MethodCode) (p : Package) (is : IsCheck
           go None g = from_none (at_tree None g)
           go (Some x) g = by x g x.code refl
 
+      -- the method of a class file for which it stands is no initialiser
+      pub plain_here : (class : ClassTree) (method : MethodTree) (tree : CodeTree) → method_at p.files f
+          ≡ Some (method_by class method (Some tree)) → is_initialiser method.name ≡ false
+      plain_here class method tree at =
+          go (slice_get (let u = h.class in u.methods) (f.member - length (let u = h.class in u.fields))) refl
+        where
+          name_by : (x : MethodTree) (o : Option CodeTree)
+              → (let y = method_by h.class x o in let id = y.id in id.name) ≡ x.name
+          name_by x None = refl
+          name_by x (Some code) = refl
+
+          go : (o : Option MethodTree) → slice_get (let u = h.class in u.methods)
+              (f.member - length (let u = h.class in u.fields)) ≡ o → is_initialiser method.name ≡ false
+          go None g =
+              let clash : None ≡ Some (method_by class method (Some tree)) = sym (at_tree None g) ∙ at in
+              absurd cc
+          go (Some x) g =
+              let both : Some (method_by h.class x x.code) ≡ Some (method_by class method (Some tree)) =
+              sym (at_tree (Some x) g) ∙ at in
+              let same : method_by h.class x x.code ≡ method_by class method (Some tree) = cc in
+              ap is_initialiser (sym (ap (λ (y : Method). let id = y.id in id.name) same) ∙ name_by x x.code)
+              ∙ h.plain x g
+
       -- its code is in the class
       coded_class : (c : IsCoded p.files codes m) → (let q = holder k m e in q.class) ≡ c.class
       coded_class c =
@@ -336,6 +359,7 @@ module _ (list : ListTree) (codes : List MethodCode) (p : Package) (is : IsCheck
                       method = c.method;
                       tree = c.tree;
                       of_package = c.of;
+                      written = c.plain;
                       listed = c.listed;
                       place = j;
                       insn = i;

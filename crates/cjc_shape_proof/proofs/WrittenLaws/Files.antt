@@ -1,5 +1,5 @@
 -- The files of a converted package are read ones that break no rule of classes and names.
-use Rattle.std.proofs.Common.{◌≡◌, ℕ, zero, suc, ◌<◌, ◌≤◌, refl, sym, ap, subst, ◌∙◌, List, [], ◌∷◌, length}
+use Rattle.std.proofs.Common.{◌≡◌, ℕ, zero, suc, ◌≤◌, refl, sym, ap, subst, ◌∙◌, List, [], ◌∷◌, length}
 use Rattle.std.specs.Prelude.{All, Some, slice_get}
 use Rattle.cjc_bytes.specs.Breaks.{Break}
 use Rattle.cjc_bytes.specs.Descriptor.{IsClassName}
@@ -23,7 +23,7 @@ use Rattle.cjc_shape.specs.Prepared as prepared
 use Rattle.cjc_world.specs.Classes.{all_classes}
 use Rattle.cjc_shape.specs.Judged.Tested.{AreFiles, IsTested}
 use Rattle.cjc_classes.specs.List.Listed.{ListTree}
-use Rattle.cjc_narrow_proof.specs.Laws.Unbroken.{AreSpelt, IsUnbroken}
+use Rattle.cjc_narrow_proof.specs.Laws.Unbroken.{AreSpelt, IsUnbroken, KeepsNames}
 use Rattle.cjc_narrow_proof.specs.Selected.Keeps.{IsSpelt}
 use Rattle.cjc_shape.proofs.PreparedLaws.Sound.{are_ready, has_tokens, is_tested, is_unbroken, listed, no_image_break}
 use Rattle.cjc_shape.proofs.PreparedLaws.Sound.{world_unbroken}
@@ -35,11 +35,10 @@ use Rattle.cjc_tokens.specs.Rules.{token_breaks}
 use Rattle.cjc_vtable.specs.Kept.{BreaksNone, IsKept, ExportsAgree}
 use Rattle.cjc_shape.proofs.WholeLaws.Drafts.{same_spelt}
 use Rattle.cjc_shape.proofs.WholeLaws.Ints.{package_free}
-use Rattle.cjc_shape.proofs.WholeLaws.Second.{package_is_draft}
 use Rattle.cjc_world.specs.Files.{Files}
 use Rattle.cjc_world.specs.Rules.{breaks}
 use Rattle.cjc_check_proof.specs.TokenProof.WrittenCalls.Standing.{AreMethods}
-use Rattle.cjc_shape_proof.specs.Written.Checked.{IsChecked, KeepsNames}
+use Rattle.cjc_shape_proof.specs.Written.Checked.{IsChecked}
 use Rattle.cjc_shape_proof.specs.Written.Converted.{ExportsArePlain, IsConverted}
 use Rattle.cjc_shape_proof.proofs.WrittenLaws.Checked as checked
 use Rattle.cjc_shape_proof.proofs.WrittenLaws.PackageNames.{package_named}
@@ -77,16 +76,22 @@ spelt_at (line ∷ lines) (b ∷ files) (spelt_files.of_export tree ∷ trees) h
 
 -- ---- a package of files that were judged, whichever of its methods are in int mode
 
+pub names_kept : (list : ListTree) (files : List (List ℕ)) (judged : Judged) (p : Package)
+    → prepared.IsSound list files judged → p.files ≡ judged.world
+    → KeepsNames list.name p.files judged.codes (settings_of list)
+names_kept list files judged p sound same =
+    subst (λ (w : Files). KeepsNames list.name w judged.codes (settings_of list)) (sym same) (record {
+      listed = listed list files judged sound;
+      world = world_unbroken list files judged sound;
+      names = judged_names list files judged (is_tested list files judged sound);
+      checks = judged_checks list files judged (is_tested list files judged sound);
+    })
+
 module _ (list : ListTree) (files : List (List ℕ)) (judged : Judged) (p : Package) (read : IsRead list)
     (sound : prepared.IsSound list files judged) (same : p.files ≡ judged.world) (exports : ExportsAreSound p.files)
     (plain : ExportsArePlain p.files) (agree : ExportsAgree (all_classes p.files)) where
-  kept : KeepsNames list.name p.files judged.codes (settings_of list)
-  kept = subst (λ (w : Files). KeepsNames list.name w judged.codes (settings_of list)) (sym same) (record {
-    listed = listed list files judged sound;
-    world = world_unbroken list files judged sound;
-    names = judged_names list files judged (is_tested list files judged sound);
-    checks = judged_checks list files judged (is_tested list files judged sound);
-  })
+  abbrev kept : KeepsNames list.name p.files judged.codes (settings_of list)
+  kept = names_kept list files judged p sound same
 
   abbrev trees : List FileTree
   trees = sound.judged_by.read.trees
@@ -148,12 +153,12 @@ module _ (list : ListTree) (files : List (List ℕ)) (judged : Judged) (p : Pack
   same_files = same_spelt list files judged is.sound p.files is.is_package.rows is.is_package.spelt
 
   pub same_list : p.list ≡ list
-  same_list = let d = package_is_draft list files p is.is_package in d.by_list
+  same_list = is.is_package.is_package.by_list
 
   -- by its own files
   pub own_unbroken : IsUnbroken list.name p.files judged.codes (settings_of list)
   own_unbroken = subst (λ (w : Files). IsUnbroken list.name w judged.codes (settings_of list)) (sym same_files)
-      (is_unbroken list files judged is.sound (package_free list files judged is.sound p is.is_package is.forms))
+      (is_unbroken list files judged is.sound (package_free list files judged is.sound p is.is_package))
 
   -- it breaks no rule of its files
   pub is_checked : IsChecked list judged.codes p

@@ -1,7 +1,6 @@
 -- How the methods of a converted package come to their code, and that they are short.
-use Rattle.std.proofs.Common.{◌≡◌, ℕ, suc, ◌+◌, ◌*◌, ◌<◌, ◌≤◌, refl, sym, ap, subst, ◌∙◌, arith, List, [], ◌∷◌, length}
-use Rattle.std.proofs.Common.{map, Bool, true, false}
-use Rattle.std.specs.Prelude.{All, Option, Some, None, ℤ, option_map, slice_get, sum_by}
+use Rattle.std.proofs.Common.{◌≡◌, ℕ, suc, ◌+◌, ◌*◌, ◌<◌, ◌≤◌, refl, ap, subst, ◌∙◌, arith, List, [], ◌∷◌, length, map}
+use Rattle.std.specs.Prelude.{All, Option, Some, None, option_map, slice_get, sum_by}
 use Rattle.std.specs.List.{Contains}
 use Rattle.std.proofs.lemmas.List.Sums.{sum_by-cons}
 use Rattle.std.proofs.lemmas.Option.{slice_get-map}
@@ -16,8 +15,8 @@ use Rattle.cjc_components.specs.Bytecode.declared.method_code.MethodCode.{Method
 use Rattle.cjc_check_proof.specs.Made.{AllAreMade, IsMade}
 use Rattle.cjc_components.specs.Limits.{size_breaks, widest_method}
 use Rattle.cjc_components.specs.Methods.{method_size}
-use Rattle.cjc_components.specs.Package.{LaidMethod, Package, pool, world}
-use Rattle.cjc_components.specs.Written.{IsWritten, code_at}
+use Rattle.cjc_components.specs.Package.{LaidMethod, Package, pool}
+use Rattle.cjc_components.specs.Written.{IsWritten}
 use Rattle.cjc_classes.specs.Emit.Emitted.{CanBeWritten, placed_at}
 use Rattle.cjc_check_proof.proofs.LimitsLaws.Limits.{method_counted}
 use Rattle.cjc_check_proof.proofs.LimitsLaws.Offsets.{header_few}
@@ -32,14 +31,11 @@ use Rattle.cjc_classes.specs.Narrow.Rows.Selected.{near_fields}
 use Rattle.cjc_shape.proofs.PreparedLaws.Sound.{are_ready}
 use Rattle.cjc_narrow_proof.specs.Selected.Keeps.{FindsItself}
 use Rattle.cjc_classes.specs.Types.declared.state.State.{State}
-use Rattle.cjc_classes.specs.Types.Flow.{Body, body_of}
+use Rattle.cjc_classes.specs.Types.Flow.{body_of}
 use Rattle.cjc_classes.specs.Types.Tables.{IsLeastTable, IsMethodOf}
 use Rattle.cjc_classes.specs.Types.declared.table.TypeTable.{TypeTable}
-use Rattle.cjc_shape.proofs.MethodsAlike.{all_alike}
-use Rattle.cjc_shape.proofs.WholeLaws.Drafts.{rows_agree, short_codes, short_tables}
-use Rattle.cjc_shape.proofs.WholeLaws.Drafts.{owned as all_are_own, rows as first_rows}
-use Rattle.cjc_shape.proofs.WholeLaws.Modes.{modes_count, own_has, own_ranges, own_tables, short_told, tells_here}
-use Rattle.cjc_shape.proofs.WholeLaws.Second.{forms_of}
+use Rattle.cjc_shape.proofs.WholeLaws.Drafts.{owned as all_are_own}
+use Rattle.cjc_shape.proofs.WholeLaws.Modes.{modes_count, tables_told}
 use Rattle.cjc_world.specs.Classes.{all_classes}
 use Rattle.cjc_world.specs.Files.{Files}
 use Rattle.cjc_world.specs.Order.{method_order}
@@ -48,15 +44,14 @@ use Rattle.cjc_check_proof.specs.TokenProof.WrittenCalls.Standing.{AreMethods, I
 use Rattle.cjc_shape.specs.LowerIntPackage.LowerIntMode.declared.modes.Mode.{Mode}
 use Rattle.cjc_shape.specs.LowerIntPackage.Modes.{Tables}
 use Rattle.cjc_shape.specs.LowerIntPackage.Written.{code_by_mode_at}
-use Rattle.cjc_shape.specs.Whole.Conversion.{AreShort, TellsIntMode}
-use Rattle.cjc_shape.specs.Whole.Working.Shaped.{has_int_mode}
-use Rattle.cjc_shape_proof.specs.Intervals.Frames.{RangeState}
-use Rattle.cjc_shape_proof.specs.Intervals.Tables.{IsLeastRanges}
+use Rattle.cjc_shape.specs.Prepared.{IsSound}
+use Rattle.cjc_shape.specs.Whole.Conversion.{IsPackageByModesOf}
 use Rattle.cjc_shape_proof.specs.Written.Checked.{IsChecked}
 use Rattle.cjc_shape_proof.specs.Written.Converted.{IsConverted}
 use Rattle.cjc_shape_proof.proofs.WrittenLaws.Coded.{ComesFrom, from_abstract, from_code, from_none}
 use Rattle.cjc_shape_proof.proofs.WrittenLaws.Coded as coded
-use Rattle.cjc_shape_proof.proofs.WrittenLaws.Files.{is_checked, own_methods, same_files}
+use Rattle.cjc_shape_proof.proofs.WrittenLaws.Files.{is_checked, own_methods}
+use Rattle.cjc_shape_proof.proofs.WrittenLaws.FittingLaws.Methods.{has, listed_member, own_code}
 use Rattle.cjc_shape_proof.proofs.WrittenLaws.Ordering.{IsOrdered}
 
 -- ---- 416 of Method
@@ -81,6 +76,38 @@ small_by p whole sizes =
     let all : widest_method p ≤ 65535 = method_counted p sizes in
     omega (arith, few, all)
 
+-- ---- a package by modes
+
+module _ (list : ListTree) (files : List (List ℕ)) (judged : Judged) (sound : IsSound list files judged) (p : Package)
+    (whole : IsPackageByModesOf list files p) where
+  -- what is selected by modes can be laid out
+  abbrev pub WholeLaw : Type 0
+  WholeLaw =
+      (w : Files) (insns : List MethodCode) (types : List TypeTable) (modes : List Mode) → AreReady w insns types
+      → length modes ≡ length insns → (t : Tables) → AreTold w insns types modes t
+      → (fields : List MemberId) (members : List Found) → All (IsOwn w) members
+      → All IsWhole (map (code_by_mode_at w fields t) members)
+
+  abbrev made : Found → NMethod
+  made = code_by_mode_at judged.world (near_fields (pool p)) whole.tables
+
+  abbrev fs : List Found
+  fs = method_order (all_classes judged.world)
+
+  all_whole : WholeLaw → All IsWhole (map made fs)
+  all_whole law = law judged.world judged.codes judged.types judged.modes (are_ready list files judged sound)
+      (modes_count list files judged sound) whole.tables
+      (tables_told list files judged sound whole.tables (has list files judged sound p whole)) (near_fields (pool p)) fs
+      (all_are_own list files judged sound)
+
+  -- jumps and handlers lead to what is written, which is no longer than the widest count
+  pub whole_at : WholeLaw → (k : ℕ) (m : LaidMethod) → slice_get p.methods k ≡ Some m → IsWhole m.code
+  whole_at law k m e =
+      let there : slice_get (map made fs) k ≡ Some m.code =
+      slice_get-map made fs k ∙ ap (option_map made) (listed_member list files judged sound p whole k m e)
+      ∙ ap Some (own_code list files judged sound p whole k m e) in
+      item_has IsWhole (map made fs) k m.code (all_whole law) there
+
 -- ---- the package
 
 module _ (list : ListTree) (files : List (List ℕ)) (judged : Judged) (p : Package) (is : IsConverted list files judged
@@ -100,70 +127,9 @@ module _ (list : ListTree) (files : List (List ℕ)) (judged : Judged) (p : Pack
   pub written_at : (k : ℕ) (m : LaidMethod) → slice_get p.methods k ≡ Some m → IsWritten p.files near rows m
   written_at k m e = is.is_package.is_package.methods k m e
 
-  member_at : (k : ℕ) (m : LaidMethod) → slice_get p.methods k ≡ Some m → slice_get (method_order (world p)) k
-      ≡ Some m.member
-  member_at k m e =
-      ap (λ fs. slice_get fs k) (sym is.is_package.is_package.members)
-      ∙ slice_get-map (λ (x : LaidMethod). x.member) p.methods k ∙ ap (option_map (λ (x : LaidMethod). x.member)) e
-
-  -- what is selected by modes can be laid out
-  abbrev pub WholeLaw : Type 0
-  WholeLaw =
-      (w : Files) (insns : List MethodCode) (types : List TypeTable) (modes : List Mode) → AreReady w insns types
-      → length modes ≡ length insns → (t : Tables) → AreTold w insns types modes t
-      → (fields : List MemberId) (members : List Found) → All (IsOwn w) members
-      → All IsWhole (map (code_by_mode_at w fields t) members)
-
-  -- each method has a least table of intervals
-  abbrev pub RangesLaw : Type 0
-  RangesLaw =
-      (b : Body) (constant : MemberId → Option ℤ) (types : List (Option State))
-      → (ranges : List (Option RangeState)) × IsLeastRanges b constant types ranges
-
-  -- no method is in int mode
-  none_in_int_mode : RangesLaw → has_int_mode judged ≡ false
-  none_in_int_mode exist = by (has_int_mode judged) (tells_here list files judged is.sound
-      (own_tables list files judged is.sound exist) (own_has list files judged is.sound exist))
-    where
-      short : AreShort list.ints judged.world
-      short = subst (AreShort list.ints) (same_files list files judged p is) is.is_package.short
-
-      by : (b : Bool) → TellsIntMode list.ints judged.world b → b ≡ false
-      by true tells = absurd (tells short)
-      by false tells = refl
-
-  -- so what is selected by rows can be laid out
-  all_whole : WholeLaw → RangesLaw → All IsWhole (map (code_at p.files near rows) (method_order (world p)))
-  all_whole law exist =
-      let sound = is.sound in
-      let ready = are_ready list files judged sound in
-      let first = first_rows list files judged sound in
-      let ranges = own_ranges list files judged sound exist in
-      let told = short_told list files judged sound exist (none_in_int_mode exist) in
-      let fs = method_order (all_classes judged.world) in
-      let own = all_are_own list files judged sound in
-      let by_mode = law judged.world judged.codes judged.types judged.modes ready
-      (modes_count list files judged sound) (short_tables first ranges) told near fs own in
-      let by_first : All IsWhole (map (code_at judged.world near first) fs) =
-      subst (λ (cs : List NMethod). All IsWhole cs) (short_codes judged.world near first ranges fs) by_mode in
-      let by_rows : All IsWhole (map (code_at judged.world near rows) fs) =
-      subst (λ (cs : List NMethod). All IsWhole cs) (all_alike judged.world judged.codes judged.types ready first rows
-      told.rows (rows_agree list files judged sound p.files rows is.is_package.spelt) near fs own) by_first in
-      subst (λ (w : Files). All IsWhole (map (code_at w near rows) (method_order (all_classes w))))
-      (sym (same_files list files judged p is)) by_rows
-
-  -- jumps and handlers lead to what is written, which is no longer than the widest count
-  pub whole_at : WholeLaw → RangesLaw → (k : ℕ) (m : LaidMethod) → slice_get p.methods k ≡ Some m → IsWhole m.code
-  whole_at law exist k m e =
-      let w = written_at k m e in
-      let there : slice_get (map (code_at p.files near rows) (method_order (world p))) k ≡ Some m.code =
-      slice_get-map (code_at p.files near rows) (method_order (world p)) k ∙ ap (option_map (code_at p.files near rows))
-      (member_at k m e) ∙ ap Some (sym w.code) in
-      item_has IsWhole (map (code_at p.files near rows) (method_order (world p))) k m.code (all_whole law exist) there
-
   -- 311
   pub ordered_at : (k : ℕ) (m : LaidMethod) → slice_get p.methods k ≡ Some m → IsOrdered m.code
-  ordered_at = coded.ordered_at list judged.codes p its own_methods_are (forms_of p is.forms)
+  ordered_at = coded.ordered_at list judged.codes p its own_methods_are is.forms
 
   -- ---- where a method is of its class file
 
@@ -193,6 +159,3 @@ module _ (list : ListTree) (files : List (List ℕ)) (judged : Judged) (p : Pack
 
     pub all_made : AllAreMade n p.files p.methods
     all_made = one_made
-
-  pub is_small : WholeLaw → RangesLaw → IsSmall p
-  is_small law exist = small_by p (whole_at law exist) is.sizes

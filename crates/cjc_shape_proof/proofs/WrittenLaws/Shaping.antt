@@ -33,10 +33,10 @@ use Rattle.cjc_shape.specs.Pool.Pool.{IsPool, PoolView, calls, is_called, token_
 use Rattle.cjc_tokens.proofs.Facts.{position-cons}
 use Rattle.cjc_tokens.specs.Tokens.{Assigned, joined}
 use Rattle.cjc_shape.proofs.PreparedLaws.Sound.{listed}
-use Rattle.cjc_shape.proofs.WholeLaws.Drafts.{same_spelt}
+use Rattle.cjc_shape.proofs.WholeLaws.Codes.{draft_files, package_is_draft}
 use Rattle.cjc_shape.proofs.WholeLaws.Ordered.{all_own}
 use Rattle.cjc_shape.specs.Prepared.{IsSound}
-use Rattle.cjc_shape.specs.Whole.Conversion.{IsPackageOf}
+use Rattle.cjc_shape.specs.Whole.Conversion.{IsPackageByModesOf}
 use Rattle.cjc_world.specs.Classes.{Class, class_at}
 use Rattle.cjc_world.specs.Files.{Files}
 use Rattle.cjc_world.specs.Order.{method_order}
@@ -195,9 +195,9 @@ module _ (p : Package) (own : (k : ℕ) (m : LaidMethod) → slice_get p.methods
       ltb-false 32767 (let code = m.code in code.widest) (none_at (is_too_long m) _ 415 (none_right _ _ none))
 
 module _ (list : ListTree) (files : List (List ℕ)) (judged : Judged) (is : IsSound list files judged) (p : Package)
-    (whole : IsPackageOf list files p) where
+    (whole : IsPackageByModesOf list files p) where
   same_world : p.files ≡ judged.world
-  same_world = same_spelt list files judged is p.files whole.rows whole.spelt
+  same_world = draft_files list files judged is p (package_is_draft list files p whole)
 
   pub own_at : (k : ℕ) (m : LaidMethod) → slice_get p.methods k ≡ Some m → IsOwn p.files m.member
   own_at = members_own p whole.is_package.members (subst (λ (w : Files). length w.classes ≤ class_count w.lines)

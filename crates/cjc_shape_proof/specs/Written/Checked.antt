@@ -3,7 +3,6 @@ use Rattle.std.specs.Prelude.{◌≡◌, ◌≤◌, ℕ, All, List, [], length, 
 use Rattle.std.specs.List.{Contains}
 use Rattle.cjc_bytes.specs.Breaks.{Break}
 use Rattle.cjc_bytes.specs.Descriptor.{IsClassName}
-use Rattle.cjc_bytes.specs.declared.settings.Settings.{Settings}
 use Rattle.cjc_check_proof.specs.WorldProof.Files.{ExportsAreSound}
 use Rattle.cjc_check_proof.specs.TokenProof.Tables.Sound.{export_count}
 use Rattle.cjc_check_proof.specs.TokenProof.WrittenCalls.Standing.{AreMethods}
@@ -33,19 +32,8 @@ use Rattle.cjc_world.specs.ClassFile.declared.tree.MethodTree.{MethodTree}
 use Rattle.cjc_world.specs.Classes.{all_classes}
 use Rattle.cjc_world.specs.ExportFile.Writable.{IsWritable}
 use Rattle.cjc_world.specs.ExportFile.declared.tree.ExportTree.{ExportTree}
-use Rattle.cjc_world.specs.Files.{Files}
 use Rattle.cjc_world.specs.Rules.{breaks}
 use Rattle.cjc_shape_proof.specs.Written.Converted.{ExportsArePlain}
-
--- The list names each class file, and the package breaks none of 201 to 208, 301 to 307, 309, 310 and 401 to 409.
-pub record KeepsNames (list : List ℕ) (files : Files) (codes : List MethodCode) (settings : Settings) : Type 0 where
-  pub listed : length files.classes ≤ class_count files.lines
-  -- 201 to 204, 207 and 208
-  pub world : breaks list files ≡ []
-  -- 203, 205 and 206 of instructions and handlers
-  pub names : name_breaks files codes ≡ []
-  -- the others
-  pub checks : check_breaks list files codes settings ≡ []
 
 -- The package of a list, of read files whose methods have these instructions. It breaks none of 201 to 208, 301 to 310,
 -- 401 to 409 and 413. Its export files say of their classes what a platform has, and don't contradict one

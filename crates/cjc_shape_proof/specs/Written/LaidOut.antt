@@ -5,7 +5,7 @@ use Rattle.cjc_bytes.specs.AccessFlags.{is_interface}
 use Rattle.cjc_bytes.specs.declared.settings.AppletLine.{AppletLine}
 use Rattle.cjc_components.specs.ExportFile.{export_class}
 use Rattle.cjc_components.specs.Exports.{exported_classes}
-use Rattle.cjc_components.specs.Limits.{code_breaks, of_methods, word_breaks}
+use Rattle.cjc_components.specs.Limits.{form_breaks, of_methods}
 use Rattle.cjc_components.specs.Package.{Package}
 use Rattle.cjc_world.specs.ExportFile.ExportFile.{method_count}
 use Rattle.cjc_world.specs.ExportFile.Writable.{EachAfter, MethodStands}
@@ -13,22 +13,23 @@ use Rattle.cjc_shape.specs.LowerJudge.Spelt.{IsRead}
 use Rattle.cjc_shape.specs.LowerJudge.declared.judged.Judged.{Judged}
 use Rattle.cjc_classes.specs.List.Listed.{ListTree}
 use Rattle.cjc_shape.specs.Prepared.{IsSound}
-use Rattle.cjc_shape.specs.Whole.Conversion.{IsPackageOf}
+use Rattle.cjc_shape.specs.LowerIntPackage.Limits.{word_breaks_by_modes}
+use Rattle.cjc_shape.specs.Whole.Conversion.{IsPackageByModesOf}
 use Rattle.cjc_world.specs.Classes.{Class}
 
 -- Each applet has an AID of at most 16 bytes, as the grammar of lists asks.
 abbrev pub AidsAreShort : ListTree → Type 0
 AidsAreShort list = AllByRecursion (λ (a : AppletLine). length a.aid ≤ 16) list.applets
 
--- The package of a list that was read and of its files, which break no rule; and it breaks neither 417, 801, 311, 414
--- nor 415.
+-- The package of a list that was read and of its files, which break no rule; and it breaks neither 417, 311, 414 nor
+-- 415, each method by its mode.
 pub record IsLaidOut (list : ListTree) (files : List (List ℕ)) (judged : Judged) (p : Package) : Type 0 where
   pub read : IsRead list
   pub aids : AidsAreShort list
   pub sound : IsSound list files judged
-  pub is_package : IsPackageOf list files p
-  pub words : of_methods p (word_breaks p) ≡ []
-  pub forms : code_breaks p ≡ []
+  pub is_package : IsPackageByModesOf list files p
+  pub words : of_methods p (word_breaks_by_modes is_package.tables p) ≡ []
+  pub forms : form_breaks p ≡ []
 
 -- The methods of a class of an export file can be counted, and each can stand behind those before it: its token is its
 -- own, and no name of an interface's method begins as <init> does.

@@ -35,7 +35,6 @@ use Rattle.cjc_shape.specs.LowerJudge.declared.judged.Judged.{Judged}
 use Rattle.cjc_classes.specs.List.Listed.{ListTree}
 use Rattle.cjc_narrow_proof.proofs.LawsLaws.Own.{own_kept}
 use Rattle.cjc_shape.proofs.PreparedLaws.Sound as Sound
-use Rattle.cjc_shape.proofs.WholeLaws.Second.{forms_of}
 use Rattle.cjc_narrow_proof.proofs.BytecodeMembers.{read_class}
 use Rattle.cjc_components.specs.Bytecode.ReadLaws.Members.{IsDescOf}
 use Rattle.cjc_tokens.specs.Rules.{FewCells}
@@ -151,7 +150,7 @@ module _ (list : ListTree) (files : List (List ℕ)) (judged : Judged) (p : Pack
         let le = ltb-false 16383 (length (constants (export_of p))) (or_right (nat_lt 16383 (length (pool p)))
         (nat_lt 16383 (length (constants (export_of p)))) (off (has_many_entries p)
         (back (of_methods p (layout_breaks p)) (at (has_many_entries p) (spot_of_list p) 414)
-        (forms_of p is.forms)))) in
+        is.forms))) in
         omega (arith, le)
       where
         back : {A : Type 0} (xs ys : List A) → xs ++ ys ≡ [] → ys ≡ []

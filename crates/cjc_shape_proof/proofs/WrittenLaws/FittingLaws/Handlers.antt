@@ -17,7 +17,6 @@ use Rattle.cjc_world.specs.ClassFile.declared.tree.ClassTree.{ClassTree}
 use Rattle.cjc_world.specs.ClassFile.declared.tree.MethodTree.{MethodTree}
 use Rattle.cjc_components.specs.Methods.{handler_count}
 use Rattle.cjc_components.specs.Package.{LaidMethod}
-use Rattle.cjc_components.specs.Written.{code_at, code_by}
 use Rattle.cjc_classes.specs.Layout.Handlers.{by_target, has_range, inserted, table_order}
 use Rattle.cjc_classes.specs.Narrow.Rows.Resolved.{method_found, resolution}
 use Rattle.cjc_classes.specs.Narrow.Rows.Package.{flags_of, read_of}
@@ -28,7 +27,10 @@ use Rattle.cjc_narrow_proof.specs.NCode.declared.narrow.NCatch.{NCatch}
 use Rattle.cjc_narrow_proof.specs.NCode.declared.narrow.NMethod.{NMethod}
 use Rattle.cjc_classes.specs.Subset.Limits.{handlers, handlers_of_class}
 use Rattle.cjc_classes.specs.Subset.Names.{catches_of}
-use Rattle.cjc_classes.specs.Types.declared.state.State.{State}
+use Rattle.cjc_shape.specs.LowerIntPackage.LowerIntMode.declared.modes.Mode.{Mode}
+use Rattle.cjc_shape.specs.LowerIntPackage.LowerIntMode.declared.modes.Mode.TheVariants as modes
+use Rattle.cjc_shape.specs.LowerIntPackage.Modes.{Tables}
+use Rattle.cjc_shape.specs.LowerIntPackage.Written.{code_by_mode, code_by_mode_at, code_in}
 use Rattle.cjc_world.specs.Added.{added}
 use Rattle.cjc_world.specs.Classes.{Class, all_classes, declared, field_of_class, method_of_class}
 use Rattle.cjc_world.specs.Files.{Files}
@@ -77,19 +79,24 @@ catches_few place cs =
     let b = length-map cs (catch_at place) in
     omega (arith, a, b)
 
-module _ (files : Files) (near : List MemberId) (rows : Method → List (Option State)) where
-  code_few : (f : Found) (o : Option Method) → length (let c = code_by files near rows f o in c.catches) ≤ entries o
-  code_few f None = let z : 0 ≤ 0 = omega arith in z
-  code_few f (Some m) = let id = m.id
+module _ (files : Files) (near : List MemberId) (t : Tables) where
+  mode_few : (mode : Mode) (m : Method) → length (let c = code_in files near t mode m in c.catches) ≤ length m.catches
+  mode_few modes.Short m = let id = m.id
       in catches_few (place_in (with_pairs (resolution files near id.class) (read_of m (flags_of (method_found
-      (all_classes files) id))) (has_rows (rows m))) (reached m.insns (rows m))) m.catches
+      (all_classes files) id))) (has_rows (t.types m))) (reached m.insns (t.types m))) m.catches
+  mode_few modes.Int m = catches_few _ m.catches
 
-  pub handlers_few : (m : LaidMethod) → code_at files near rows m.member ≡ m.code
+  code_few : (f : Found) (o : Option Method) → length (let c = code_by_mode files near t f o in c.catches) ≤ entries o
+  code_few f None = let z : 0 ≤ 0 = omega arith in z
+  code_few f (Some m) = mode_few (t.mode m) m
+
+  pub handlers_few : (m : LaidMethod) → code_by_mode_at files near t m.member ≡ m.code
       → handler_count m ≤ entries (method_at files m.member)
   handlers_few m e =
       let a = table_few (let c = m.code in c.catches) in
       let b = code_few m.member (method_at files m.member) in
-      let same : length (let c = code_at files near rows m.member in c.catches) ≡ length (let c = m.code in c.catches) =
+      let same : length (let c = code_by_mode_at files near t m.member in c.catches)
+      ≡ length (let c = m.code in c.catches) =
       ap (λ (c : NMethod). length c.catches) e in
       omega (arith, a, b, same)
 

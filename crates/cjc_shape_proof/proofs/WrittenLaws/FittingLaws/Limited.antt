@@ -11,15 +11,15 @@ use Rattle.cjc_components.specs.Bytecode.PackageCodes.{all_codes}
 use Rattle.cjc_classes.specs.Descriptor.Fits.{AreFit}
 use Rattle.cjc_shape_proof.proofs.WrittenLaws.FittingLaws.Initialisers.{stand_once}
 use Rattle.cjc_world.specs.ClassFile.ClassFile.{class_file}
-use Rattle.cjc_classes.specs.JvmSemantics.OnePackage.{method_at}
 use Rattle.cjc_world.specs.ClassFile.declared.tree.ClassTree.{ClassTree}
 use Rattle.cjc_world.specs.ClassFile.declared.tree.MethodTree.{MethodTree}
 use Rattle.cjc_components.specs.Class.{interfaces_of}
 use Rattle.cjc_components.specs.ExportFile.{export_class, export_of}
 use Rattle.cjc_components.specs.Exports.{exported_classes}
-use Rattle.cjc_components.specs.Limits.{code_breaks, else_of, limit_breaks, size_breaks}
+use Rattle.cjc_components.specs.Limits.{else_of, size_breaks}
 use Rattle.cjc_components.specs.Methods.{handler_count}
-use Rattle.cjc_components.specs.Package.{LaidMethod, Package, has_applets, world}
+use Rattle.cjc_components.specs.Package.{LaidMethod, Package, has_applets, pool, world}
+use Rattle.cjc_classes.specs.Narrow.Rows.Selected.{near_fields}
 use Rattle.cjc_world.specs.ExportFile.Writable.{IsWritable}
 use Rattle.cjc_world.specs.ExportFile.declared.tree.ExportTree.{ExportTree}
 use Rattle.cjc_check_proof.specs.Limits.Premises.{CellsAreDescribed, ClassIsSmall, IsLimited, ListIsShort}
@@ -30,16 +30,13 @@ use Rattle.cjc_shape.specs.LowerJudge.Spelt.{FileTree, exports_of}
 use Rattle.cjc_shape.specs.LowerJudge.declared.judged.Judged.{Judged}
 use Rattle.cjc_shape.proofs.JudgedLaws.Selected.{judged_writable}
 use Rattle.cjc_classes.specs.List.Listed.{ListTree}
-use Rattle.cjc_narrow_proof.specs.Laws.Unbroken.{IsUnbroken}
-use Rattle.cjc_shape.proofs.PreparedLaws.Sound.{are_ready, has_tokens, is_tested, is_unbroken}
+use Rattle.cjc_narrow_proof.specs.Laws.Unbroken.{KeepsNames}
+use Rattle.cjc_shape.proofs.PreparedLaws.Sound.{are_ready, has_tokens, is_tested}
 use Rattle.cjc_shape.proofs.PreparedLaws.Sound as Sound
 use Rattle.cjc_check_proof.specs.TokenProof.Tables.Sound.{export_count}
 use Rattle.cjc_tokens.specs.Methods.{is_open_bound}
 use Rattle.cjc_tokens.specs.Rules.{FewExported, token_breaks}
 use Rattle.cjc_vtable.proofs.Filed.{get-has, get-has as has_get}
-use Rattle.cjc_shape.proofs.WholeLaws.Drafts as Drafts
-use Rattle.cjc_shape.proofs.WholeLaws.Ints.{package_free}
-use Rattle.cjc_shape.proofs.WholeLaws.Second.{forms_of, package_is_draft}
 use Rattle.cjc_world.proofs.Settled.{AreSupertypes-one, supertypes-AreSupertypes}
 use Rattle.cjc_world.proofs.Unbroken.{unbroken_is_acyclic}
 use Rattle.cjc_world.specs.Classes.{Class, declared, method_of_class}
@@ -50,12 +47,13 @@ use Rattle.cjc_shape_proof.proofs.WrittenLaws.FittingLaws.Arrays.{arrays_fit}
 use Rattle.cjc_shape_proof.proofs.WrittenLaws.FittingLaws.Cells.{are_described}
 use Rattle.cjc_shape_proof.proofs.WrittenLaws.FittingLaws.Values.{values_fit}
 use Rattle.cjc_shape_proof.specs.Written.LaidOut.{IsLaidOut}
+use Rattle.cjc_shape_proof.proofs.WrittenLaws.Files.{names_kept}
 use Rattle.cjc_shape_proof.proofs.WrittenLaws.FittingLaws.Exported.{exports_few, not_open}
-use Rattle.cjc_shape_proof.proofs.WrittenLaws.FittingLaws.Handlers.{entries, few, handlers_few}
+use Rattle.cjc_shape_proof.proofs.WrittenLaws.FittingLaws.Handlers.{few, handlers_few}
 use Rattle.cjc_shape_proof.proofs.WrittenLaws.FittingLaws.Interfaces.{few_named}
 use Rattle.cjc_shape_proof.proofs.WrittenLaws.FittingLaws.Listed.{aid_short, classes_spelt, exports_counted}
 use Rattle.cjc_shape_proof.proofs.WrittenLaws.FittingLaws.Listed.{few_exports}
-use Rattle.cjc_shape_proof.proofs.WrittenLaws.FittingLaws.Methods.{is_short, near, own_code, same_files, same_list}
+use Rattle.cjc_shape_proof.proofs.WrittenLaws.FittingLaws.Methods.{is_short, same_files, same_list}
 use Rattle.cjc_shape_proof.proofs.WrittenLaws.FittingLaws.Order.{few_ordered, order_filed}
 use Rattle.cjc_shape_proof.proofs.WrittenLaws.FittingLaws.Rules as Rules
 use Rattle.cjc_shape_proof.proofs.WrittenLaws.FittingLaws.Tables.{own_maps, own_package, own_public}
@@ -73,9 +71,8 @@ module _ (list : ListTree) (files : List (List ℕ)) (judged : Judged) (p : Pack
     pub by_list : p.list ≡ list
     by_list = same_list list files judged is.sound p is.is_package
 
-    pub unbroken : IsUnbroken list.name p.files judged.codes (settings_of list)
-    unbroken = subst (λ (v : Files). IsUnbroken list.name v judged.codes (settings_of list)) (sym by_files)
-        (is_unbroken list files judged is.sound (package_free list files judged is.sound p is.is_package is.forms))
+    pub unbroken : KeepsNames list.name p.files judged.codes (settings_of list)
+    unbroken = names_kept list files judged p is.sound by_files
 
     by_lines : (let v = p.files in v.lines) ≡ list.lines
     by_lines = ap (λ (v : Files). v.lines) (by_files ∙ is.sound.judged_by.world)
@@ -180,17 +177,11 @@ module _ (list : ListTree) (files : List (List ℕ)) (judged : Judged) (p : Pack
 
     few_handlers : sum_by handler_count p.methods ≤ 255
     few_handlers = let u = unbroken in
-        let rows = Drafts.rows list files judged is.sound in
-        let all = few p.files p.methods (let d = package_is_draft list files p is.is_package in d.members)
-        (λ k m e. subst (λ (v : Files). handler_count m ≤ entries (method_at v m.member)) (sym by_files)
-        (handlers_few judged.world (near list files judged is.sound p is.is_package) rows m
-        (own_code list files judged is.sound p is.is_package k m e))) in
+        let all = few p.files p.methods is.is_package.is_package.members
+        (λ k m e. handlers_few p.files (near_fields (pool p)) is.is_package.tables m
+        (sym (is.is_package.is_package.methods k m e).code)) in
         let kept = Rules.few_handlers list.name p.files judged.codes (settings_of list) u.checks in
         omega (arith, all, kept)
-
-    none_broken : size_breaks p ≡ [] → limit_breaks p ≡ []
-    none_broken sizes = ap (λ bs. else_of bs (else_of (code_breaks p) (size_breaks p))) is.words
-        ∙ ap (λ bs. else_of bs (size_breaks p)) is.forms ∙ sizes
 
     -- ---- methods of interfaces
 
@@ -226,7 +217,7 @@ module _ (list : ListTree) (files : List (List ℕ)) (judged : Judged) (p : Pack
         u.listed u.world) is.is_package.is_package.image
 
     pub methods_short : (k : ℕ) (m : LaidMethod) → slice_get p.methods k ≡ Some m → MethodIsShort m
-    methods_short k m e = is_short list files judged is.sound p is.is_package k m e (forms_of p is.forms)
+    methods_short k m e = is_short list files judged is.sound p is.is_package k m e is.forms
 
     pub limited : ((q : Package) → FewExported (has_applets q) q.files
         → (let t = export_of q in length t.classes < 256))
@@ -240,7 +231,7 @@ module _ (list : ListTree) (files : List (List ℕ)) (judged : Judged) (p : Pack
       few_exported = few_of_export law;
       exported = λ k c e. exports_few p tokens no_open k c e;
       few_handlers = few_handlers;
-      limits = none_broken sizes;
+      limits = ap (λ bs. else_of bs (size_breaks p)) is.forms ∙ sizes;
       methods = methods_short;
       cells = cells;
     }

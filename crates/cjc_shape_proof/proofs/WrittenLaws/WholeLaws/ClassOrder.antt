@@ -8,17 +8,16 @@ use Rattle.cjc_classes.specs.List.Listed.{ListTree}
 use Rattle.cjc_shape.specs.LowerMethods.Ready.{AreOrdered}
 use Rattle.cjc_shape.proofs.PreparedLaws.Parts.{ordered}
 use Rattle.cjc_shape.specs.Prepared.{IsSound}
-use Rattle.cjc_shape.proofs.WholeLaws.Drafts.{same_spelt}
-use Rattle.cjc_shape.proofs.WholeLaws.Second.{package_is_draft}
-use Rattle.cjc_shape.specs.Whole.Conversion.{IsPackageOf}
+use Rattle.cjc_shape.proofs.WholeLaws.Codes.{draft_files, package_is_draft}
+use Rattle.cjc_shape.specs.Whole.Conversion.{IsPackageByModesOf}
 use Rattle.cjc_world.specs.Classes.{all_classes}
 use Rattle.cjc_world.specs.Files.{Files}
 use Rattle.cjc_world.specs.Order.{in_order, method_order}
 
 module _ (list : ListTree) (files : List (List ℕ)) (judged : Judged) (is : IsSound list files judged) (p : Package)
-    (whole : IsPackageOf list files p) where
+    (whole : IsPackageByModesOf list files p) where
   pub same_files : p.files ≡ judged.world
-  same_files = same_spelt list files judged is p.files whole.rows whole.spelt
+  same_files = draft_files list files judged is p (package_is_draft list files p whole)
 
   pub are_ordered : (order : List ℕ) → map Some (in_order (all_classes judged.world) false)
       ≡ map (declared_at (let w = judged.world in w.classes)) order → All (IsOfKind judged.world false) order
@@ -27,4 +26,4 @@ module _ (list : ListTree) (files : List (List ℕ)) (judged : Judged) (is : IsS
       ∙ ordered judged.world order all)
 
   pub members_are : map (λ m. m.member) p.methods ≡ method_order (world p)
-  members_are = let d = package_is_draft list files p whole in d.members
+  members_are = whole.is_package.members

@@ -1,4 +1,5 @@
 use Rattle.std.specs.Prelude.{ℕ, List}
+use Rattle.std.proofs.Common.{◌∙◌}
 use Rattle.cjc_components.specs.Bytecode.PackageCodes.{all_codes}
 use Rattle.cjc_check_proof.specs.Made.{AllAreMade}
 use Rattle.cjc_components.specs.Names.{names}
@@ -8,19 +9,22 @@ use Rattle.cjc_classes.specs.List.Listed.{ListTree}
 use Rattle.cjc_classes.specs.Narrow.Rows.Selected.{near_fields}
 use Rattle.cjc_shape_proof.specs.Written.Converted.{IsConverted}
 use Rattle.cjc_shape_proof.proofs.WrittenLaws.Files.{files_sound}
-use Rattle.cjc_shape_proof.proofs.WrittenLaws.Made.{all_made, is_small}
+use Rattle.cjc_shape_proof.proofs.WrittenLaws.Made.{all_made, small_by, whole_at}
 use Rattle.cjc_shape_proof.proofs.WrittenLaws.Shaping.{has_pool, pool_of}
 use Rattle.cjc_shape_proof.proofs.written.converted_methods_are_consistent.Goals as goal
 
 made : goal.After-written_methods_are_made → (list : ListTree) (files : List (List ℕ)) (judged : Judged) (p : Package)
     → IsConverted list files judged p → AllAreMade (names p) p.files p.methods
 made c list files judged p is =
+    let moded = c.packages_in_short_mode_are_as_before.ensures.by_modes list files judged is.sound p is.is_package in
+    let words = c.packages_in_short_mode_are_as_before.ensures.words list files judged is.sound p moded
+    (let of = is.is_package in of.short) ∙ is.words in
     let pooled = has_pool judged.world (tokens p) (codes p) in
     let law = c.written_methods_are_made.ensures in
     let near = near_fields (pool p) in
     let rows = (let of = is.is_package in of.rows) in
     all_made list files judged p is (names p)
-    (λ k m e. ((c.converted_methods_are_emittable.ensures list files judged is.sound p is.is_package is.forms
+    (λ k m e. ((c.converted_methods_are_emittable.ensures list files judged is.sound p moded words is.forms
     (pool_of judged.world (tokens p) (codes p)) pooled).each k m e).written)
     (λ m w e. law.added (names p) p.files near rows m w e)
     (λ m w class method e. law.without_code (names p) p.files near rows m w class method e)
@@ -31,8 +35,9 @@ pub returns-clause-made : goal.returns-clause-made
 returns-clause-made = made
 
 pub returns-clause-small : goal.returns-clause-small
-returns-clause-small c = λ list files judged p is. is_small list files judged p is c.methods_can_be_laid_out.ensures
-    c.least_ranges_exist.ensures
+returns-clause-small c = λ list files judged p is. small_by p (whole_at list files judged is.sound p
+    (c.packages_in_short_mode_are_as_before.ensures.by_modes list files judged is.sound p is.is_package)
+    c.methods_can_be_laid_out.ensures) is.sizes
 
 pub returns-clause-classes : goal.returns-clause-classes
 returns-clause-classes c = λ list files judged p is. c.classes_keep_rules.ensures.order list.name p

@@ -1,5 +1,4 @@
 use Rattle.cjc_check_proof.proofs.LimitsLaws.Methods.{widest_low}
-use Rattle.cjc_shape.proofs.WholeLaws.Second.{forms_of}
 use Rattle.cjc_shape_proof.proofs.WrittenLaws.FittingLaws.Limited.{limited, methods_short}
 use Rattle.cjc_shape_proof.proofs.WrittenLaws.FittingLaws.Sizes.{entries_few, sizes_kept}
 use Rattle.cjc_shape_proof.proofs.written.fitting_laws.laid_out_packages_fit.Goals as goal
@@ -12,5 +11,5 @@ returns-clause-writable c = λ list files judged p is counted none. c.components
     (limited list files judged p is c.few_classes.ensures (sizes_kept p counted none))
 
 pub returns-clause-method : goal.returns-clause-method
-returns-clause-method c = λ list files judged p is counted. widest_low p (entries_few p (forms_of p is.forms))
+returns-clause-method c = λ list files judged p is counted. widest_low p (entries_few p is.forms)
     (methods_short list files judged p is) counted
