@@ -3,3 +3,5 @@ pub mod Stops
 pub mod Handlers
 pub mod Judging
 pub mod Makes
+pub mod Flags
+pub mod Short

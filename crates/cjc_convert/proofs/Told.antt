@@ -14,7 +14,7 @@ use Rattle.cjc_captree.specs.ClassOrder.Classes.Numbers.{declared_at}
 use Rattle.cjc_captree.specs.ClassFile.declared.tree.ClassTree.{ClassTree}
 use Rattle.cjc_captree.specs.ClassFile.declared.tree.MethodTree.{MethodTree}
 use Rattle.cjc_shape_proof.specs.Components.Descriptor.{as_added, method_in, methods_with_added, no_member}
-use Rattle.cjc_shape_proof.specs.Components.Limits.{else_of, form_breaks, has_far_types, has_int_code}
+use Rattle.cjc_shape_proof.specs.Components.Limits.{else_of, form_breaks, has_far_types}
 use Rattle.cjc_shape_proof.specs.Components.Limits.{has_large_component}
 use Rattle.cjc_shape_proof.specs.Components.Limits.{has_many_entries}
 use Rattle.cjc_shape_proof.specs.Components.Limits.{has_many_words, in_class, is_too_long, layout_breaks, method_spot}
@@ -28,7 +28,6 @@ use Rattle.cjc_captree.specs.Layout.Refusals.{least, overtaking}
 use Rattle.cjc_shape_proof.specs.LowerIntPackage.Limits.{lacks_int_room, word_breaks_by_modes}
 use Rattle.cjc_shape_proof.specs.LowerIntPackage.Modes.{Tables}
 use Rattle.cjc_shape_proof.specs.LowerMethods.JvmSemantics.OnePackage.{method_at}
-use Rattle.cjc_shape_proof.specs.LowerShape.Whole.Conversion.{code_breaks_where, int_breaks_where}
 use Rattle.cjc_shape_proof.proofs.VTableFiled.{Has, get-has}
 use Rattle.cjc_shape_proof.proofs.VTableNumbers.{at-tree}
 use Rattle.cjc_shape_proof.specs.World.Added.{added}
@@ -270,10 +269,5 @@ module _ (p : Package) (counted : (let v = p.files in length v.classes ≡ class
   sizes_told = each_append Told (at (has_far_types p) (spot_of_list p) 411) (at (has_large_component p) (spot_of_list p)
       416) (at_list (has_far_types p) 411) (at_list (has_large_component p) 416)
 
-  codes_told : (in_int_mode : Bool) → Each Told (code_breaks_where in_int_mode p)
-  codes_told b = each_else Told (int_breaks_where b p) (form_breaks p) (at_list (b || has_int_code p) 801) forms_told
-
-  pub written_told : (t : Tables) (in_int_mode : Bool)
-      → Each Told (else_of (of_methods p (word_breaks_by_modes t p)) (code_breaks_where in_int_mode p))
-  written_told t b = each_else Told (of_methods p (word_breaks_by_modes t p)) (code_breaks_where b p) (words_told t)
-      (codes_told b)
+  pub written_told : (t : Tables) → Each Told (else_of (of_methods p (word_breaks_by_modes t p)) (form_breaks p))
+  written_told t = each_else Told (of_methods p (word_breaks_by_modes t p)) (form_breaks p) (words_told t) forms_told

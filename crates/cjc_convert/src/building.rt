@@ -8,6 +8,9 @@ ghost use Rattle.cjc_shape_proof.specs.Components.Components.{components_of, met
 ghost use Rattle.cjc_shape_proof.specs.Components.Limits.{size_breaks};
 ghost use Rattle.cjc_shape_proof.specs.Components.Methods.{placed_methods};
 ghost use Rattle.cjc_shape_proof.specs.Components.Package as packages;
+ghost use Rattle.cjc_shape_proof.specs.Components.Package.{Package};
+ghost use Rattle.cjc_shape_proof.specs.LowerIntPackage.Components.{components_by_modes, has_int_mode};
+ghost use Rattle.cjc_shape_proof.specs.LowerIntPackage.Modes.{Tables};
 ghost use Rattle.cjc_shape_proof.specs.LowerJudge.Spelt.{IsRead};
 ghost use Rattle.cjc_shape_proof.specs.Pool.Pool.{IsPool};
 ghost use Rattle.cjc_shape_proof.specs.LowerShape.Prepared.{BreaksNothing};
@@ -84,7 +87,20 @@ fn components_with(
     components(alloc, &given, written.method, written.locations)
 }
 
-/// The components of a package that breaks none of the rules of its files and of 417, 801, 311, 414 and 415.
+/// The type int is named, or a method is in int mode (Java Card Virtual Machine Specification 2.2.2, section 6.3).
+const ACC_INT: u8 = 0x01;
+
+/// Sets ACC_INT in Header where a method is in int mode. Header has as many bytes whatever its flags are.
+fn set_mode(cap: &mut CapTree, in_int_mode: bool)
+    ensures { (t : Tables) (p : Package) → cap.old ≡ components_of p → in_int_mode ≡ has_int_mode t p
+        → cap.new ≡ components_by_modes t p }
+{
+    if in_int_mode {
+        cap.header.flags |= ACC_INT;
+    }
+}
+
+/// The components of a package that breaks none of the rules of its files and of 417, 311, 414 and 415.
 ///
 /// # Errors
 ///
@@ -93,7 +109,8 @@ pub(crate) fn build(alloc: Global, judged: &Judged<'_>, shaped: &Shaped) -> Resu
     requires read { IsRead judged.now.list.now }
     requires sound { BreaksNothing judged.now }
     requires shaped { IsShaped judged.now shaped.now }
-    ensures made { IfOk result (λ t. t ≡ components_of (package_of judged.now shaped.now)) }
+    ensures made { (t : Tables) → shaped.now.in_int_mode ≡ has_int_mode t (package_of judged.now shaped.now)
+        → IfOk result (λ cap. cap ≡ components_by_modes t (package_of judged.now shaped.now)) }
     ensures unbroken { OnOk result (size_breaks (package_of judged.now shaped.now) ≡ []) }
     ensures refused { IfErr result (IsFirstRefusal (size_breaks (package_of judged.now shaped.now))) }
 {
@@ -103,7 +120,7 @@ pub(crate) fn build(alloc: Global, judged: &Judged<'_>, shaped: &Shaped) -> Resu
     let pool = pool_of(alloc, judged, shaped)?;
     let offsets = offsets(alloc, &shaped.methods)?;
     let written = method_component(alloc, &shaped.methods, offsets.items(), &pool)?;
-    let cap = components_with(
+    let mut cap = components_with(
         alloc,
         judged,
         shaped,
@@ -117,5 +134,6 @@ pub(crate) fn build(alloc: Global, judged: &Judged<'_>, shaped: &Shaped) -> Resu
         shaped.methods.codes.items(),
         &cap,
     )?;
+    set_mode(&mut cap, shaped.in_int_mode);
     Ok(cap)
 }

@@ -9,6 +9,11 @@ pub mod list {
     pub use cjc_captree::list::List;
 }
 
+/// What crates above take of bytes.
+pub mod bytes {
+    pub use cjc_shape_proof::bytes::{RulePlace, answer, broken};
+}
+
 /// What crates above take of bytecode.
 pub mod bytecode {
     pub use cjc_captree::bytecode::jvm;
@@ -41,4 +46,4 @@ mod laws;
 mod sizes;
 
 pub use conversion::{Converted, convert};
-pub use laws::one_answer;
+pub use laws::{conversions_in_short_mode_are_as_before, one_answer};

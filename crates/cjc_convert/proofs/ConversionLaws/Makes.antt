@@ -7,11 +7,10 @@ use Rattle.cjc_captree.specs.Bytes.declared.fault.Fault.{Fault}
 use Rattle.cjc_captree.specs.Bytes.declared.fault.Fault.TheVariants as faults
 use Rattle.cjc_captree.specs.CapWrite.Files.{files_of}
 use Rattle.cjc_captree.specs.CapWrite.Writable.{IsSpelt}
-use Rattle.cjc_shape_proof.specs.Components.Components.{components_of}
+use Rattle.cjc_shape_proof.specs.LowerIntPackage.Components.{components_by_modes}
 use Rattle.cjc_shape_proof.specs.Components.Limits.{size_breaks}
-use Rattle.cjc_convert.proofs.ConversionLaws.Shapes.{its_draft}
 use Rattle.cjc_convert.proofs.ConversionLaws.Stops.{keeps_limits, stopped_by_sizes}
-use Rattle.cjc_convert.specs.Conversion.{IsConverted}
+use Rattle.cjc_convert.specs.Conversion.{IsConvertedByModes}
 use Rattle.cjc_convert.specs.declared.conversion.Converted.{Converted}
 use Rattle.cjc_captree.specs.ExportFile.ExportFile.{export_file}
 use Rattle.cjc_captree.specs.ExportFile.Written.{written}
@@ -23,19 +22,17 @@ use Rattle.cjc_shape_proof.specs.LowerShape.declared.whole.shaping.Shaped.{Shape
 
 module _ (j : Judged) (s : Shaped) (is : BreaksNothing j) (h : IsShaped j s) where
   pub by_sizes : (e : Fault) → IsFirstRefusal (size_breaks (package_of j s)) e → Stopped j.list.now j.files.now e
-  by_sizes = stopped_by_sizes j.list.now j.files.now j is (package_of j s) h.is_package (its_draft j s h) h.words
-      h.forms
+  by_sizes = stopped_by_sizes j.list.now j.files.now j is (package_of j s) h.is_package h.words h.forms
 
   module _ (small : size_breaks (package_of j s) ≡ []) where
-    pub converted : (made : Converted) → made.caps ≡ files_of (components_of (package_of j s))
-        → IsSpelt (components_of (package_of j s)) made.caps → made.export ≡ written s.export
-        → FileSpells export_file s.export made.export → IsConverted j.list.now j.files.now made
+    pub converted : (made : Converted) → made.caps ≡ files_of (components_by_modes h.is_package.tables (package_of j s))
+        → IsSpelt (components_by_modes h.is_package.tables (package_of j s)) made.caps → made.export ≡ written s.export
+        → FileSpells export_file s.export made.export → IsConvertedByModes j.list.now j.files.now made
     converted made caps spelt export file = let by = is.judged_by in record {
       unbroken = by.unbroken;
       whole = package_of j s;
       is_package = h.is_package;
-      limits = keeps_limits j.list.now j.files.now j is (package_of j s) h.is_package (its_draft j s h) h.words h.forms
-          small;
+      limits = keeps_limits j.list.now j.files.now j is (package_of j s) h.is_package h.words h.forms small;
       caps = caps;
       caps_spelt = spelt;
       export = export ∙ ap written h.by_export;

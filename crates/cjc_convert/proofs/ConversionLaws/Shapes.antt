@@ -6,18 +6,13 @@ use Rattle.cjc_shape_proof.specs.LowerJudge.declared.judged.Judged.{Judged}
 use Rattle.cjc_captree.proofs.MethodsKept.{codes_of}
 use Rattle.cjc_captree.specs.NCode.declared.narrow.NMethod.{NMethod}
 use Rattle.cjc_shape_proof.specs.Pool.Pool.{IsPool, PoolView}
-use Rattle.cjc_shape_proof.proofs.ShapeSecond.{package_is_draft}
 use Rattle.cjc_shape_proof.specs.LowerShape.Prepared.{BreaksNothing}
-use Rattle.cjc_shape_proof.specs.LowerShape.Whole.Conversion.{IsDraft}
 use Rattle.cjc_shape_proof.specs.LowerShape.Whole.Working.Shaped.{IsShaped, package_of}
 use Rattle.cjc_shape_proof.specs.LowerShape.declared.whole.shaping.Shaped.{Shaped}
 use Rattle.cjc_shape_proof.specs.Written.LaidOut.{AidsAreShort, IsLaidOut}
 use Rattle.cjc_captree.specs.Tokens.Tokens.{Assigned}
 
 module _ (j : Judged) (s : Shaped) (h : IsShaped j s) where
-  pub its_draft : IsDraft j.list.now j.files.now (package_of j s)
-  its_draft = package_is_draft j.list.now j.files.now (package_of j s) h.is_package
-
   pub its_codes : (let m = s.methods in m.codes) ≡ codes (package_of j s)
   its_codes = let m = s.methods in sym (codes_of m.codes m.laid h.laid.count)
 

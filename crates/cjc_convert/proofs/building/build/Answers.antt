@@ -35,7 +35,7 @@ components_with-requires-clause-method c =
     let p = package_of j s in
     c.in_ok-written.ensures.method p refl (c.items.ensures ∙ c.in_ok-offsets.ensures.each)
     (c.converted_methods_are_emittable.ensures j.list.now j.files.now j c.requires.sound p shaped.is_package
-    shaped.forms
+    shaped.words shaped.forms
     c.in_ok-pool.pool (its_pool j s shaped c.in_ok-pool.pool c.in_ok-pool.ensures))
 
 pub components_with-requires-clause-locations : goal.components_with-requires-clause-locations
@@ -46,7 +46,7 @@ components_with-requires-clause-locations c =
     let p = package_of j s in
     c.in_ok-written.ensures.locations p refl (c.items.ensures ∙ c.in_ok-offsets.ensures.each)
     (c.converted_methods_are_emittable.ensures j.list.now j.files.now j c.requires.sound p shaped.is_package
-    shaped.forms
+    shaped.words shaped.forms
     c.in_ok-pool.pool (its_pool j s shaped c.in_ok-pool.pool c.in_ok-pool.ensures))
 
 pub returns-in_err-test_sizes-clause-refused : goal.returns-in_err-test_sizes-clause-refused
@@ -63,3 +63,7 @@ returns-clause-unbroken c =
     let s = c.args.shaped.now in
     c.in_ok-test_sizes.ensures.unbroken (package_of j s) c.items-4.ensures (c.items-5.ensures
     ∙ its_codes j s c.requires.shaped) c.in_ok-cap.ensures
+
+pub returns-clause-made : goal.returns-clause-made
+returns-clause-made c = λ t mode. c.set_mode.ensures t (package_of c.args.judged.now c.args.shaped.now)
+    c.in_ok-cap.ensures mode
