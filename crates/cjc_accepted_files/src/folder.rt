@@ -17,6 +17,7 @@ ghost use Rattle.cjc_shelf.specs.Shelf.{Files};
 ghost use Rattle.cjc_accepted_files.specs.Folder.{parts_of};
 
 use cjc_shape_proof::written::laid_out_packages_fit;
+use cjc_theorem::alike::converted_packages_are_laid_out;
 
 /// Of a folder in which the files of a converted package stand, all components are read: Directory says which are
 /// there, none is too long, none breaks its format, and together they are what was written.
@@ -35,5 +36,6 @@ pub fn written_files_are_read_back()
     ensures components { (p : Package) (caps : Written) → IsSpelt (components_of p) caps
         → cap_in (parts_of caps) ≡ Some (components_of p) }
 {
+    converted_packages_are_laid_out();
     laid_out_packages_fit();
 }

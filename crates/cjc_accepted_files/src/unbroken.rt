@@ -10,7 +10,7 @@ ghost use Rattle.cjc_cmd_card.specs.Report.Runs.{AnyBreaks};
 ghost use Rattle.cjc_cmd_card.specs.CmdCheck.Folder.Breaks.{cap_in};
 ghost use Rattle.cjc_cmd_card.specs.CmdCheck.Folder.Reads.{plan_of_parts};
 ghost use Rattle.cjc_cmd_convert.specs.Publication.{below, files_made};
-ghost use Rattle.cjc_convert.specs.Conversion.{IsConverted};
+ghost use Rattle.cjc_convert.specs.Conversion.{IsConverted, IsConvertedByModes};
 ghost use Rattle.cjc_convert.specs.declared.conversion.Converted.{Converted as Written};
 ghost use Rattle.cjc_shape_proof.specs.LowerJudge.Rules.{files_spelt, has_applets};
 ghost use Rattle.cjc_shape_proof.specs.LowerJudge.Spelt.{FileTree, IsRead, SpellTrees, classes_of, exports_of};
@@ -19,6 +19,7 @@ ghost use Rattle.cjc_shape_proof.specs.Written.Converted.{IsConverted as IsConve
 ghost use Rattle.cjc_shelf.specs.Command.Plan.{complete as complete_with, verdict};
 ghost use Rattle.cjc_shelf.specs.Command.Publish.{Stand};
 ghost use Rattle.cjc_shelf.specs.Shelf.{Files};
+ghost use Rattle.cjc_theorem.specs.Alike.Alike.{NoneInIntMode};
 ghost use Rattle.cjc_theorem.specs.FairExports.Fair.{ExportsAreFair};
 ghost use Rattle.cjc_verified_proof.specs.Verify.Pairs.{pair_of};
 ghost use Rattle.cjc_verified_proof.specs.Verify.Verified.{IsVerified};
@@ -31,17 +32,21 @@ use cjc_accepted_theorem::converted::converted_packages_are_accepted;
 use cjc_accepted_theorem::read_back::written_components_are_accepted;
 use cjc_accepted_theorem::stands::code_of_converted_packages_stands;
 use cjc_cmd_card::check_rules::consistent_where_unbroken;
+use cjc_convert::conversions_in_short_mode_are_as_before;
 use cjc_shape_proof::written::converted_files_are_sound;
 use cjc_theorem::alike::names_are_met;
 use cjc_theorem::fair_exports::fair_exports_are_sound;
 
-/// What is converted, with fair export files, is a package of which the laws of converted packages speak.
+/// What is converted, with fair export files, is a package of which the laws of converted packages speak, where none of
+/// its methods is in int mode.
 pub fn conversions_are_of_packages()
     ensures { (list : ListTree) (files : Items (Items ℕ)) (made : Written) → IsRead list
-        → (is : IsConverted list files made)
+        → IsConvertedByModes list files made
         → (trees : Items FileTree) → SpellTrees list.lines files trees → ExportsAreFair (exports_of trees)
-        → IsConvertedPackage list files is.judged is.whole }
+        → NoneInIntMode list (files_spelt list trees)
+        → (is : IsConverted list files made) × IsConvertedPackage list files is.judged is.whole }
 {
+    conversions_in_short_mode_are_as_before();
     fair_exports_are_sound();
 }
 
@@ -49,13 +54,15 @@ pub fn conversions_are_of_packages()
 /// list, its files and these components break no rule that is tested before components are run.
 pub fn written_files_break_nothing()
     ensures read { (list : ListTree) (files : Items (Items ℕ)) (made : Written) → IsRead list
-        → IsConverted list files made
+        → IsConvertedByModes list files made
         → (trees : Items FileTree) → SpellTrees list.lines files trees → ExportsAreFair (exports_of trees)
+        → NoneInIntMode list (files_spelt list trees)
         → (told : Files) (dir name export : Items ℕ) → Stand told (map (below dir) (files_made name made.caps export))
         → verdict told (plan_of_parts dir) ≡ complete_with (parts_of made.caps) }
     ensures unbroken { (list : ListTree) (files : Items (Items ℕ)) (made : Written) → IsRead list
-        → IsConverted list files made
+        → IsConvertedByModes list files made
         → (trees : Items FileTree) → SpellTrees list.lines files trees → ExportsAreFair (exports_of trees)
+        → NoneInIntMode list (files_spelt list trees)
         → (b : Break) → AnyBreaks (input_of list files made.caps) [] b → ⊥ }
 {
     consistent_where_unbroken();
@@ -68,8 +75,10 @@ pub fn written_files_break_nothing()
 
 /// Nor do they break one of the type checker's.
 pub fn written_files_are_accepted()
-    ensures { (list : ListTree) (files : Items (Items ℕ)) (made : Written) → IsRead list → IsConverted list files made
+    ensures { (list : ListTree) (files : Items (Items ℕ)) (made : Written) → IsRead list
+        → IsConvertedByModes list files made
         → (trees : Items FileTree) → SpellTrees list.lines files trees → ExportsAreFair (exports_of trees)
+        → NoneInIntMode list (files_spelt list trees)
         → (spelt : Items FileTree) → SpellTrees list.lines files spelt
         → (image : StaticImage) → IsImage (files_spelt list spelt) (all_codes (classes_of spelt)) image
         → (cap : CapTree) → cap_in (parts_of made.caps) ≡ Some cap → (c : Complete) → complete cap ≡ Some c

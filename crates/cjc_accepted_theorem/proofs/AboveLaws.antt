@@ -68,6 +68,7 @@ use Rattle.cjc_accepted_proof.specs.Frames.{MethodFits, PassesFor, SubtypesAgree
 use Rattle.cjc_accepted_proof.specs.Served.{CallServed, entry_for, type_for}
 use Rattle.cjc_accepted_proof.specs.Served as serves
 use Rattle.cjc_accepted_proof.specs.Written.{written_pair}
+use Rattle.cjc_theorem.proofs.ShapeProofOfFiles.{is_of_files}
 use Rattle.cjc_theorem.proofs.AlikeLaws.MetLaws.KeySources.{Calls_method, IsMet, called}
 use Rattle.cjc_theorem.proofs.AlikeLaws.MetLaws.KeySources as sources
 use Rattle.cjc_theorem.proofs.ShapeProofFiles.{files_sound, own_unbroken}
@@ -168,8 +169,8 @@ module _ (list : ListTree) (files : List (List ℕ)) (judged : Judged) (p : Pack
     abbrev m : MemberId
     m = of_class class.name id
 
-    abbrev call : Calls_method list files judged p is class 0xB7 id
-    call = called list files judged p is class 0xB7 id of
+    abbrev call : Calls_method list judged.codes p (is_of_files list files judged p is) class 0xB7 id
+    call = called list judged.codes p (is_of_files list files judged p is) class 0xB7 id of
 
     abbrev flags : ℕ
     flags = let c = call in let a = c.at in let x = a.member in x.flags

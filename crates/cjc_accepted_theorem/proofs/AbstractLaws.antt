@@ -80,6 +80,7 @@ use Rattle.cjc_verified_proof.proofs.TokenProofWrittenCallsFiles.{export_virtual
 use Rattle.cjc_verified_proof.proofs.TokenProofWrittenSendsOrder.{first_class}
 use Rattle.cjc_accepted_proof.specs.Accepted.{HasNoAbstract}
 use Rattle.cjc_accepted_proof.specs.Written.{written_pair}
+use Rattle.cjc_theorem.specs.ShapeProof.Written.LaidOut.{IsLaidOut}
 use Rattle.cjc_accepted_theorem.proofs.ConcreteLaws.{hidden_source, selected_whole, slot_means, slot_plain}
 use Rattle.cjc_accepted_theorem.proofs.MethodsLaws.{member_is}
 use Rattle.cjc_accepted_theorem.proofs.NoAbstractLaws.{no_abstract}
@@ -472,7 +473,7 @@ module _ (p : Package) (facts : Facts p)
 -- ---- a class of which objects are made
 
 module _ (list : ListTree) (files : List (List ℕ)) (judged : Judged) (p : Package) (is : IsConverted list files judged
-    p) (facts : Facts p) (keeps : Keeps (world p)) (solid : IsSolid p.files) (tokens : KeepsTokens (world p))
+    p) (laid : IsLaidOut list files judged p) (facts : Facts p) (keeps : Keeps (world p)) (solid : IsSolid p.files) (tokens : KeepsTokens (world p))
     (mean : TokensMean (world p)) (mean_here : PackageTokensMean (world p))
     (imported_calls : ImportedCallsAgree (world p)) (agree : (h : ℕ) (x z : List ℕ) → SaysTower (world p) (naming p)
     (method_offset p) h x z → h ≤ depth (loaded p) → DispatchAgrees (world p) (naming p) (method_offset p) x z)
@@ -490,7 +491,7 @@ module _ (list : ListTree) (files : List (List ℕ)) (judged : Judged) (p : Pack
       (plain : is_interface c.flags ≡ false) (made : is_abstract c.flags ≡ false) where
     whole : (s : Signature) → is_special s ≡ false → (f : Found) → selection v x s ≡ Some f → IsConcrete p facts begun
         f
-    whole s flat = selected_whole list files judged p is facts keeps solid x c e own plain made s (second
+    whole s flat = selected_whole list files judged p is laid facts keeps solid x c e own plain made s (second
         (is_constructor s.name) (is_initialiser s.name) flat)
       where
         second : (a b : Bool) → (a || b) ≡ false → b ≡ false
@@ -540,8 +541,8 @@ module _ (list : ListTree) (files : List (List ℕ)) (judged : Judged) (p : Pack
         let m = mean x c e plain s t tok in
         let f = m.method in
         let has = here-has_slot (slots (line_of v x)) t s g in
-        let flat = slot_plain list files judged p is facts keeps solid x c e own plain made s has in
-        let sel : selection v x s ≡ Some f = sym (slot_means list files judged p is facts keeps solid x c e own plain
+        let flat = slot_plain list files judged p is laid facts keeps solid x c e own plain made s has in
+        let sel : selection v x s ≡ Some f = sym (slot_means list files judged p is laid facts keeps solid x c e own plain
         made
         s t tok) ∙ m.by_token in
         ap (is_abstract_selection q) (says.open_method t f s m.by_token m.name) ∙ by f m.nearest flat sel f.imported
@@ -667,7 +668,7 @@ module _ (list : ListTree) (files : List (List ℕ)) (judged : Judged) (p : Pack
         let m = mean_here x c e s t tok in
         let f = m.method in
         let has = here-has_slot (hidden_slots (line_of v x)) t s g in
-        let source = hidden_source list files judged p is facts keeps solid x c e s has in
+        let source = hidden_source list files judged p is laid facts keeps solid x c e s has in
         let finds = hidden_found v facts.are_supertypes facts.one_supertypes facts.rules (own_kinds list judged.codes p
         (is_of_files list files judged p is)
         facts.are_supertypes facts.one_supertypes keeps) x s source in

@@ -4,8 +4,8 @@ use Rattle.std.proofs.Common.{◌≡◌, ℕ, zero, suc, ◌+◌, ◌<◌, ◌^�
 use Rattle.std.proofs.Common.{true, false, List, [], ◌∷◌, ◌++◌, length}
 use Rattle.std.specs.Prelude.{Option, Some, None, option_and_then, ◌||◌, ◌&&◌, not, if◌then◌else◌, is_some, slice_get}
 use Rattle.std.specs.List.{AllByRecursion, list_any}
-use Rattle.cjc_theorem.proofs.ShapeProofInsns.{op_fit}
-use Rattle.cjc_theorem.specs.ShapeProof.Written.Checked.{KeepsNames}
+use Rattle.cjc_narrow_proof.proofs.LawsLaws.Instructions.{op_fit}
+use Rattle.cjc_narrow_proof.specs.Laws.Unbroken.{KeepsNames}
 use Rattle.cjc_verified_proof.specs.Bytes.AccessFlags.{is_interface}
 use Rattle.cjc_verified_proof.specs.Bytes.Descriptor.{Parts}
 use Rattle.cjc_verified_proof.specs.Bytes.Spots.{desc_of}
@@ -47,9 +47,10 @@ use Rattle.cjc_accepted_proof.specs.Subset.Overriding.{gets_hidden, overriding_b
 use Rattle.cjc_accepted_proof.specs.Subset.Places.{at_class, at_field, at_method}
 use Rattle.cjc_accepted_proof.specs.Subset.Types.{is_int_desc, is_unsupported_desc, is_unsupported_name}
 use Rattle.cjc_accepted_proof.specs.Subset.Types.{names_unsupported}
+use Rattle.cjc_theorem.proofs.ShapeProofOfFiles.{is_of_files}
 use Rattle.cjc_theorem.proofs.AlikeLaws.MetLaws.KeySources as sources
 use Rattle.cjc_theorem.proofs.AlikeLaws.MetLaws.KeySources.{IsMet, called, key_met}
-use Rattle.cjc_theorem.proofs.AlikeLaws.MetLaws.LaidOut.{laid_out}
+use Rattle.cjc_theorem.specs.ShapeProof.Written.LaidOut.{IsLaidOut}
 use Rattle.cjc_theorem.proofs.AlikeLaws.MetLaws.Own.{Names_field, declared_by, field_own}
 use Rattle.cjc_theorem.proofs.AlikeLaws.MetLaws.There.{special_key, virtual_key}
 use Rattle.cjc_theorem.proofs.AlikeLaws.NamedLaws.Members.{field_named, static_named, static_own}
@@ -180,7 +181,7 @@ module _ (list : List ℕ) (files : Files) (codes : List MethodCode) (settings :
 -- ---- a converted package
 
 module _ (list : ListTree) (files : List (List ℕ)) (judged : Judged) (p : Package) (is : IsConverted list files judged
-    p) where
+    p) (laid : IsLaidOut list files judged p) where
   abbrev w : List Class
   w = world p
 
@@ -217,7 +218,7 @@ module _ (list : ListTree) (files : List (List ℕ)) (judged : Judged) (p : Pack
 
     got_card : (k : ℕ) (m : Member) → slice_get (added w (declared n t)) k ≡ Some m → IsOnCard m.desc
     got_card k m h =
-        let read = (added_method list files judged p (laid_out list files judged p is) t.name (declared n t) named k m
+        let read = (added_method list files judged p laid t.name (declared n t) named k m
         h).0 in
         let short = read.desc in
         let d = desc_there m.desc read.is_desc in
@@ -250,12 +251,12 @@ module _ (list : ListTree) (files : List (List ℕ)) (judged : Judged) (p : Pack
   codes = judged.codes
 
   -- the descriptor of a field of the package that code names
-  named_field : (id : MemberId) (static : Bool) (n : Names_field list files judged p is id static)
+  named_field : (id : MemberId) (static : Bool) (n : Names_field list judged.codes p (is_of_files list files judged p is) id static)
       → (let d = n.owner in d.is_imported) ≡ false → IsOnCard id.desc
   named_field id static n own =
       let d = n.owner in
       let place = n.at in
-      let t = declared_by list files judged p is d n.named own place.place place.member place.is_member in
+      let t = declared_by list judged.codes p (is_of_files list files judged p is) d n.named own place.place place.member place.is_member in
       subst IsOnCard (sym (ap (λ (q : Member). q.desc) t.same) ∙ place.has_desc) (field_card d.number t.file t.is_file
       place.place t.tree t.in_file)
 
@@ -263,7 +264,7 @@ module _ (list : ListTree) (files : List (List ℕ)) (judged : Judged) (p : Pack
       → IsOnCard id.desc
   unfolding names_unsupported
   call_card class op id of =
-      let n = called list files judged p is class op id of in
+      let n = called list judged.codes p (is_of_files list files judged p is) class op id of in
       let place = n.at in
       let fit = op_fit list.name p.files codes (settings_of list) u class (jop.Call op id) of in
       let d = member_desc p.files (read_files list files judged p is) n.owner n.named place.place place.member
@@ -278,7 +279,7 @@ module _ (list : ListTree) (files : List (List ℕ)) (judged : Judged) (p : Pack
   key_card _ (sources.of_field class put id of) =
       let n = field_named list.name p.files codes (settings_of list) u (own_solid list files judged p is) class put id
       of in (
-        ap-desc n.resolved (named_field id false n (field_own list files judged p is id n)),
+        ap-desc n.resolved (named_field id false n (field_own list judged.codes p (is_of_files list files judged p is) id n)),
         tt,
       )
     where
@@ -290,24 +291,24 @@ module _ (list : ListTree) (files : List (List ℕ)) (judged : Judged) (p : Pack
       let own = static_own list.name p.files codes (settings_of list) u (own_solid list files judged p is) id n none in
       (subst (λ (q : MemberId). IsOnCard q.desc) (sym n.resolved) (named_field id true n own), tt)
   key_card _ (sources.of_virtual class id of) = (
-    virtual_key list files judged p is (λ m. IsOnCard m.desc) class id (called list files judged p is class 0xB6 id of)
+    virtual_key list judged.codes p (is_of_files list files judged p is) (λ m. IsOnCard m.desc) class id (called list judged.codes p (is_of_files list files judged p is) class 0xB6 id of)
         (call_card class 0xB6 id of) (λ own. call_card class 0xB6 id of),
     tt,
   )
   key_card _ (sources.of_special k class id known plain of) =
-      special_key list files judged p is (λ key. AllByRecursion IsOnCard (desc_of_key key)) class.name class id
-      (called list files judged p is class 0xB7 id of) (λ e. (call_card class 0xB7 id of, tt)) (λ e. (
+      special_key list judged.codes p (is_of_files list files judged p is) (λ key. AllByRecursion IsOnCard (desc_of_key key)) class.name class id
+      (called list judged.codes p (is_of_files list files judged p is) class 0xB7 id of) (λ e. (call_card class 0xB7 id of, tt)) (λ e. (
         call_card class
             0xB7 id of,
         tt,
       )) (λ e f. (call_card class 0xB7 id of, tt))
   key_card _ (sources.of_call class id of) =
-      let n = called list files judged p is class 0xB8 id of in
+      let n = called list judged.codes p (is_of_files list files judged p is) class 0xB8 id of in
       (subst (λ (q : MemberId). IsOnCard q.desc) (sym n.resolved) (call_card class 0xB8 id of), tt)
 
   pub card_types : CallsHaveOpcodes judged.codes → HasCardTypes p
   card_types opcodes = record {
     fields = fields_card;
     methods = methods_card;
-    entries = λ k key e. key_card key (key_met list files judged p is opcodes k key e);
+    entries = λ k key e. key_card key (key_met list judged.codes p (is_of_files list files judged p is) opcodes k key e);
   }

@@ -22,7 +22,7 @@ use Rattle.cjc_verified_proof.specs.World.declared.found.Found.{Found}
 use Rattle.cjc_verified_proof.specs.WorldProof.Calls.Solid.{IsSolid}
 use Rattle.cjc_theorem.specs.LowerJudge.declared.judged.Judged.{Judged}
 use Rattle.cjc_theorem.specs.ShapeProof.Written.Converted.{IsConverted}
-use Rattle.cjc_theorem.proofs.AlikeLaws.MetLaws.LaidOut.{laid_out}
+use Rattle.cjc_theorem.specs.ShapeProof.Written.LaidOut.{IsLaidOut}
 use Rattle.cjc_theorem.proofs.AlikeLaws.VirtualCalls.Chosen.{any_selects, own_first}
 use Rattle.cjc_theorem.proofs.AlikeLaws.VirtualCalls.Lines.{HasHidden, HasShown, hidden_below, shown_below}
 use Rattle.cjc_theorem.proofs.AlikeLaws.VirtualCalls.Lines.{shown_selected}
@@ -178,7 +178,7 @@ shown_selects m e = by (selects m) (is_constructor m.name || is_initialiser m.na
     by false b f = absurd cc
 
 module _ (list : ListTree) (files : List (List ℕ)) (judged : Judged) (p : Package) (is : IsConverted list files judged
-    p) (facts : Facts p) (keeps : Keeps (world p)) (solid : IsSolid p.files) where
+    p) (laid : IsLaidOut list files judged p) (facts : Facts p) (keeps : Keeps (world p)) (solid : IsSolid p.files) where
   abbrev w : List Class
   w = world p
 
@@ -276,7 +276,7 @@ module _ (list : ListTree) (files : List (List ℕ)) (judged : Judged) (p : Pack
   own_gets x d e own s h =
       let r = has-In (added w d) s h in
       let at = place_in (added w d) r.0 r.1 in
-      let read = added_method list files judged p (laid_out list files judged p is) x d e at.0 r.0 at.1 in
+      let read = added_method list files judged p laid x d e at.0 r.0 at.1 in
       let a = added_asked w d s h in
       let name = ap (λ (v : Signature). v.name) r.2 in
       let asks = ap (λ (v : Signature). v.name) a.2 in

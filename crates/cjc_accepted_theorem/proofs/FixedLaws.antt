@@ -59,6 +59,7 @@ use Rattle.cjc_accepted_proof.specs.Frames.{MethodFits, PassesFor, SubtypesAgree
 use Rattle.cjc_accepted_proof.specs.Served.{entry_for, type_for}
 use Rattle.cjc_accepted_proof.specs.Written.{written_pair}
 use Rattle.cjc_theorem.proofs.ShapeProofOfFiles.{is_of_files}
+use Rattle.cjc_theorem.proofs.ShapeProofOfFiles.{is_of_files}
 use Rattle.cjc_theorem.proofs.AlikeLaws.MetLaws.KeySources.{Calls_method, IsMet, called}
 use Rattle.cjc_theorem.proofs.AlikeLaws.NamedLaws.Names.{fixed_in_class, private_own}
 use Rattle.cjc_theorem.proofs.ShapeProofFiles.{files_sound, own_unbroken}
@@ -116,7 +117,7 @@ module _ (list : ListTree) (files : List (List ℕ)) (judged : Judged) (p : Pack
   sound = files_sound list files judged p is
 
   abbrev N : (class : ClassTree) (op : ℕ) (id : MemberId) → Type 0
-  N class op id = Calls_method list files judged p is class op id
+  N class op id = Calls_method list judged.codes p (is_of_files list files judged p is) class op id
 
   -- what a static reference says of a method with these flags, of a class of this name
   record Says (method : StaticRef) (owner : List ℕ) (flags : ℕ) : Type 0 where
@@ -274,7 +275,7 @@ module _ (list : ListTree) (files : List (List ℕ)) (judged : Judged) (p : Pack
   pub static_at : (class : ClassTree) (id : MemberId) → IsInsnOf p.files codes class (jop.Call 0xB8 id)
       → Holds (naming p) (keys.StaticMethod (resolved_method w id)) → StaticAt id (resolved_method w id)
   static_at class id of holds =
-      let n = called list files judged p is class 0xB8 id of in
+      let n = called list judged.codes p (is_of_files list files judged p is) class 0xB8 id of in
       subst (StaticAt id) (sym n.resolved) (made n (subst (λ (g : MemberId). Holds (naming p) (keys.StaticMethod g))
       n.resolved holds))
     where

@@ -60,7 +60,7 @@ use Rattle.cjc_theorem.proofs.ShapeProofOrder.{order_filed}
 use Rattle.cjc_theorem.proofs.ShapeProofWorlds.{own_solid}
 use Rattle.cjc_theorem.specs.LowerJudge.declared.judged.Judged.{Judged}
 use Rattle.cjc_theorem.specs.ShapeProof.Written.Converted.{IsConverted}
-use Rattle.cjc_theorem.proofs.AlikeLaws.MetLaws.LaidOut.{laid_out}
+use Rattle.cjc_theorem.specs.ShapeProof.Written.LaidOut.{IsLaidOut}
 use Rattle.cjc_verified_proof.proofs.TokenProofClean.{own_name}
 use Rattle.cjc_verified_proof.proofs.TokenProofOrder.{kind-in, order_has, order_in, own_names}
 use Rattle.cjc_verified_proof.proofs.TokenProofWrittenCallsBegins.{same_itself}
@@ -432,22 +432,22 @@ module _ (list : ListTree) (files : List (List ℕ)) (judged : Judged) (p : Pack
         by None f g = absurd cc
         by (Some d) f g = go d f d.is_method refl g
 
-    signed : (d : Class) → class_named w d.name ≡ Some d → (f : Found) → IsMethodOf w d f → (s : Signature)
+    signed : IsLaidOut list files judged p → (d : Class) → class_named w d.name ≡ Some d → (f : Found) → IsMethodOf w d f → (s : Signature)
         × (signature_of (let m = method_in w d f.member in m.desc) ≡ Some s)
-    signed d named f (of_file i m is_m is_f same plain) =
+    signed laid d named f (of_file i m is_m is_f same plain) =
         let r = member_desc p.files (read_files list files judged p is) d named i m is_m in
         let t = r.0 in
         subst (λ (y : Member). (s : Signature) × (signature_of y.desc ≡ Some s)) (sym same) (types_there m.desc t.0 t.1
         t.2)
-    signed d named f (of_interfaces i m is_m is_f same) =
-        let r = (added_method list files judged p (laid_out list files judged p is) d.name d named i m is_m).0 in
+    signed laid d named f (of_interfaces i m is_m is_f same) =
+        let r = (added_method list files judged p laid d.name d named i m is_m).0 in
         subst (λ (y : Member). (s : Signature) × (signature_of y.desc ≡ Some s)) (sym same) (written_types m.desc
         r.is_desc)
 
     -- ---- headers
 
     module _ (whole : whole_spots (components p) ≡ []) (jump : jump_spots (components p) ≡ [])
-        (card : HasCardTypes p) where
+        (card : HasCardTypes p) (laid : IsLaidOut list files judged p) where
       card_both : (desc : List ℕ) (s : Signature) → signature_of desc ≡ Some s → IsOnCard desc
           → (list_all is_card_sort s.params && is_card_result s.result) ≡ true
       card_both desc s e on = sym (ap (is_card_type desc) e) ∙ on
@@ -525,7 +525,7 @@ module _ (list : ListTree) (files : List (List ℕ)) (judged : Judged) (p : Pack
           let offset : md.offset ≡ method_offset p f = ap (λ (x : MethodDescriptor). x.offset) (sym of.same) in
           let same : start_at 0 md.offset b.header md ≡ begun.start = same_some (sym begins_here ∙ ap (start_of
           (loaded p) 0) offset ∙ begun.starts) in
-          let sign = signed d named f method in
+          let sign = signed laid d named f method in
           let place_of_class = has-get d (class_order w) listed in
           let on = card.methods place_of_class.0 d place_of_class.1 of.place_in f of.is_found in
           let words : (let h = b.header in h.nargs) ≡ headers.argument_words q b =

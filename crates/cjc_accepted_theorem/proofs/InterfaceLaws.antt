@@ -50,7 +50,7 @@ use Rattle.cjc_check_proof.specs.Types.Types.{parts}
 use Rattle.cjc_ncode.specs.Written.{nargs_of, words_by}
 use Rattle.cjc_narrow_proof.specs.Laws.Unbroken.{IsInsnOf, IsUnbroken}
 use Rattle.cjc_narrow_proof.specs.Tables.Calls.{IsWordDesc}
-use Rattle.cjc_narrow_proof.proofs.LawsLaws.Instructions.{op_there}
+use Rattle.cjc_narrow_proof.proofs.LawsLaws.Instructions.{kept_names, op_there}
 use Rattle.cjc_shape_proof.proofs.FindsLaws.Descs.{member_desc}
 use Rattle.cjc_accepted_proof.specs.CardActs.CardTypes.{MemberType, type_by, types_in, widths}
 use Rattle.cjc_accepted_proof.specs.Coded.{card_type, is_of}
@@ -58,6 +58,7 @@ use Rattle.cjc_accepted_proof.specs.Frames.{MethodFits, PassesFor, SubtypesAgree
 use Rattle.cjc_accepted_proof.specs.Served.{entry_for}
 use Rattle.cjc_accepted_proof.specs.Written.{written_pair}
 use Rattle.cjc_theorem.proofs.AlikeLaws.InterfaceCalls.Interfaces.{interface_named}
+use Rattle.cjc_theorem.proofs.ShapeProofOfFiles.{is_of_files}
 use Rattle.cjc_theorem.proofs.AlikeLaws.MetLaws.Descs.{desc_known}
 use Rattle.cjc_theorem.proofs.AlikeLaws.MetLaws.KeySources.{Calls_method, called}
 use Rattle.cjc_theorem.proofs.ShapeProofFiles.{files_sound, own_unbroken, read_files}
@@ -188,9 +189,9 @@ module _ (list : ListTree) (files : List (List ℕ)) (judged : Judged) (p : Pack
       → types_known (is_known w) id.desc (signature_of id.desc) ≡ true
   unfolding names_missing
   desc_read class id of =
-      let c = called list files judged p is class 0xB9 id of in
+      let c = called list judged.codes p (is_of_files list files judged p is) class 0xB9 id of in
       let at = c.at in
-      let ok = op_there list.name p.files codes (settings_of list) u class (jop.Call 0xB9 id) of in
+      let ok = op_there list.name p.files codes (settings_of list) (kept_names u) class (jop.Call 0xB9 id) of in
       let short = (member_desc p.files (read_files list files judged p is) c.owner c.named at.place at.member
       at.is_member).1 in
       desc_known w id.desc (subst (λ v. length v < 2 ^ 32) at.has_desc short) (or_right (is_name_missing w id.class)
@@ -201,13 +202,13 @@ module _ (list : ListTree) (files : List (List ℕ)) (judged : Judged) (p : Pack
       → Holds (naming p) (keys.Class (let g = resolved_method w id in g.class))
       → InterfaceAt id (resolved_method w id)
   interface_at class id word of holds =
-      let c = called list files judged p is class 0xB9 id of in
+      let c = called list judged.codes p (is_of_files list files judged p is) class 0xB9 id of in
       subst (InterfaceAt id) (sym c.resolved) (by c (subst (λ (g : MemberId). Holds (naming p) (keys.Class g.class))
       c.resolved holds) (subst (λ g. IsNamed w (OnInterface 1 g)) c.resolved (interface_named list judged.codes p
       (is_of_files list files judged p is)
       class id of 1)))
     where
-      by : (c : Calls_method list files judged p is class 0xB9 id)
+      by : (c : Calls_method list judged.codes p (is_of_files list files judged p is) class 0xB9 id)
           → Holds (naming p) (keys.Class (let d = c.owner in d.name))
           → IsNamed w (OnInterface 1 (of_class (let d = c.owner in d.name) id))
           → InterfaceAt id (of_class (let d = c.owner in d.name) id)

@@ -35,7 +35,7 @@ use Rattle.cjc_verified_proof.proofs.TokenProofStarts.{ref_is_start}
 use Rattle.cjc_check_proof.specs.Classes.Premises.{TypesAreKnown}
 use Rattle.cjc_check_proof.specs.NarrowProof.Selection.Rows.{is_word_sort}
 use Rattle.cjc_check_proof.specs.Types.Types.{is_void, parts}
-use Rattle.cjc_narrow_proof.specs.Laws.Unbroken.{IsInsnOf, IsUnbroken}
+use Rattle.cjc_narrow_proof.specs.Laws.Unbroken.{IsInsnOf, IsUnbroken, KeepsNames}
 use Rattle.cjc_narrow_proof.specs.Runs.Names.{IsWordField}
 use Rattle.cjc_narrow_proof.proofs.SelectedLaws.IntFree.{op_free}
 use Rattle.cjc_narrow_proof.proofs.LawsLaws.Instructions.{field_there, op_there}
@@ -49,12 +49,12 @@ use Rattle.cjc_accepted_proof.specs.Frames.{FieldFits, IsTypeFor, SubtypesAgree}
 use Rattle.cjc_accepted_proof.specs.Members.{StaticFits}
 use Rattle.cjc_accepted_proof.specs.Served.{entry_for, letter_of, type_for}
 use Rattle.cjc_accepted_proof.specs.Written.{written_pair}
+use Rattle.cjc_theorem.proofs.ShapeProofOfFiles.{is_of_files}
 use Rattle.cjc_theorem.proofs.AlikeLaws.MetLaws.KeySources.{IsMet, of_field, of_static}
 use Rattle.cjc_theorem.proofs.AlikeLaws.MetLaws.Own.{declared_by, field_own}
 use Rattle.cjc_theorem.proofs.AlikeLaws.NamedLaws.Members.{NamesField, field_named, static_named, static_own}
 use Rattle.cjc_theorem.proofs.ShapeProofFiles.{files_sound, own_names as names_kept, own_unbroken}
 use Rattle.cjc_theorem.proofs.ShapeProofFiles.{read_files}
-use Rattle.cjc_theorem.specs.ShapeProof.Written.Checked.{KeepsNames}
 use Rattle.cjc_theorem.proofs.ShapeProofWorlds.{own_solid}
 use Rattle.cjc_theorem.proofs.WholeRuns.Objects.{own_field_word}
 use Rattle.cjc_theorem.specs.LowerJudge.Rules.{settings_of}
@@ -134,7 +134,7 @@ module _ (list : ListTree) (files : List (List ℕ)) (judged : Judged) (p : Pack
   word_of id static n own no_int =
       let d = n.owner in
       let at = n.at in
-      let t = declared_by list files judged p is d n.named own at.place at.member at.is_member in
+      let t = declared_by list judged.codes p (is_of_files list files judged p is) d n.named own at.place at.member at.is_member in
       let x = t.tree in
       let same : x.desc ≡ id.desc = sym (ap (λ (v : Member). v.desc) t.same) ∙ at.has_desc in
       subst IsWordField same (own_field_word list.name p.files codes (settings_of list) u.checks (read_files list files
@@ -162,7 +162,7 @@ module _ (list : ListTree) (files : List (List ℕ)) (judged : Judged) (p : Pack
   unfolding works_on_int
   field_at class put id of holds =
       let n = field_named list.name p.files codes (settings_of list) kept solid class put id of in
-      let own = field_own list files judged p is id n in
+      let own = field_own list judged.codes p (is_of_files list files judged p is) id n in
       let its = met (keys.Field (resolved_field w id)) (of_field class put id of) in
       let word = word_of id false n own (op_free p.files codes u.no_int class (jop.Field put id) of) in
       subst (FieldAt id) (sym n.resolved) (made n own word (subst (λ (g : MemberId). Holds (naming p) (keys.Field g))
@@ -183,7 +183,7 @@ module _ (list : ListTree) (files : List (List ℕ)) (judged : Judged) (p : Pack
           let sort : field_sort id.desc ≡ sort_of r = ap sort_or_none word.is_desc in
           let one : is_word_sort (sort_of r) ≡ true = ap is_word_sort (sym sort) ∙ word.one_word in
           let t = type_for q (names p) (keys.Field g) in
-          let ok = op_there list.name p.files codes (settings_of list) u class (jop.Field put id) of in
+          let ok = op_there list.name p.files codes (settings_of list) kept class (jop.Field put id) of in
           let there = field_there p.files class put id ok.0 ok.1 in
           record {
             class = class_ref p d.name;

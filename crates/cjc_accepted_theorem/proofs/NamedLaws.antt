@@ -52,6 +52,7 @@ use Rattle.cjc_verified_proof.proofs.TokenProofWrittenCallsFacts.{Facts}
 use Rattle.cjc_verified_proof.proofs.TokenProofWrittenCallsTables.{import_at}
 use Rattle.cjc_theorem.specs.LowerJudge.declared.judged.Judged.{Judged}
 use Rattle.cjc_theorem.specs.ShapeProof.Written.Converted.{IsConverted}
+use Rattle.cjc_theorem.proofs.ShapeProofOfFiles.{is_of_files}
 use Rattle.cjc_theorem.proofs.AlikeLaws.MetLaws.Own.{Names_method}
 use Rattle.cjc_theorem.proofs.AlikeLaws.NamedLaws.Abroad.{fixed_abroad}
 use Rattle.cjc_theorem.proofs.ShapeProofFiles.{files_sound}
@@ -191,7 +192,7 @@ module _ (list : ListTree) (files : List (List ℕ)) (judged : Judged) (p : Pack
     p) (facts : Facts p) where
   -- What an export file lists of a static method or a constructor that a call names, by the imported class that
   -- declares it.
-  pub record Abroad (class : ClassTree) (op : ℕ) (id : MemberId) (n : Names_method list files judged p is class op id)
+  pub record Abroad (class : ClassTree) (op : ℕ) (id : MemberId) (n : Names_method list judged.codes p (is_of_files list files judged p is) class op id)
       (import : (let d = n.owner in d.is_imported) ≡ true) : Type 0 where
     pub token : ℕ
     pub ref : (let d = n.owner in let h = facts.file d.name d n.named import in let e = h.entry in method_ref p
@@ -201,7 +202,7 @@ module _ (list : ListTree) (files : List (List ℕ)) (judged : Judged) (p : Pack
     pub listed : (let d = n.owner in let h = facts.file d.name d n.named import in let e = h.entry in IsListed e.methods
         token id)
 
-  pub abroad : (class : ClassTree) (op : ℕ) (id : MemberId) (n : Names_method list files judged p is class op id)
+  pub abroad : (class : ClassTree) (op : ℕ) (id : MemberId) (n : Names_method list judged.codes p (is_of_files list files judged p is) class op id)
       → (import : (let d = n.owner in d.is_imported) ≡ true) → (let d = n.owner in is_interface d.flags) ≡ false
       → is_unbound (let a = n.at in let m = a.member in m.flags) (let a = n.at in let m = a.member in m.name) ≡ true
       → Abroad class op id n import
@@ -249,7 +250,7 @@ module _ (list : ListTree) (files : List (List ℕ)) (judged : Judged) (p : Pack
       }
 
   -- a static method or a constructor by the imported class that declares it
-  pub abroad_named : (class : ClassTree) (op : ℕ) (id : MemberId) (n : Names_method list files judged p is class op id)
+  pub abroad_named : (class : ClassTree) (op : ℕ) (id : MemberId) (n : Names_method list judged.codes p (is_of_files list files judged p is) class op id)
       → (let d = n.owner in d.is_imported) ≡ true → (let d = n.owner in is_interface d.flags) ≡ false
       → is_unbound (let a = n.at in let m = a.member in m.flags) (let a = n.at in let m = a.member in m.name) ≡ true
       → named_desc (written_pair p) (entry_of (names p) (keys.StaticMethod (of_class (let d = n.owner in d.name) id)))

@@ -33,6 +33,7 @@ use Rattle.cjc_theorem.specs.ShapeProof.Written.Converted.{IsConverted}
 use Rattle.cjc_verified_proof.specs.Narrow.Rows.Resolved.{resolved_method}
 use Rattle.cjc_accepted_proof.specs.NarrowProof.Laws.Unbroken.{IsInsnOf}
 use Rattle.cjc_verified_proof.specs.Bytecode.declared.insn.JOp.TheVariants as jop
+use Rattle.cjc_theorem.proofs.ShapeProofOfFiles.{is_of_files}
 use Rattle.cjc_theorem.proofs.AlikeLaws.MetLaws.KeySources.{called}
 use Rattle.cjc_theorem.proofs.AlikeLaws.MetLaws.Own.{Names_method, own_method_named}
 use Rattle.cjc_verified_proof.proofs.TokenProofStarts.{ref_is_start}
@@ -197,7 +198,7 @@ module _ (list : ListTree) (files : List (List ℕ)) (judged : Judged) (p : Pack
   number_is d f (of_interfaces i m is_m is_f same) = ap (λ (x : Found). x.class) is_f
 
   -- What Descriptor says of a method of the package that a call names, by where its header stands.
-  pub record Entered (by : ClassTree) (op : ℕ) (id : MemberId) (n : Names_method list files judged p is by op id)
+  pub record Entered (by : ClassTree) (op : ℕ) (id : MemberId) (n : Names_method list judged.codes p (is_of_files list files judged p is) by op id)
       :
       Type 0 where
     pub one : Described
@@ -213,14 +214,14 @@ module _ (list : ListTree) (files : List (List ℕ)) (judged : Judged) (p : Pack
     pub listed : slice_get (methods_of_class w n.owner) number ≡ Some n.place
     pub tree : (let d = n.owner in let f = n.place in method_in w d f.member) ≡ (let a = n.at in a.member)
 
-  pub entered : (class : ClassTree) (op : ℕ) (id : MemberId) (n : Names_method list files judged p is class op id)
+  pub entered : (class : ClassTree) (op : ℕ) (id : MemberId) (n : Names_method list judged.codes p (is_of_files list files judged p is) class op id)
       → (let d = n.owner in d.is_imported) ≡ false → (let d = n.owner in is_interface d.flags) ≡ false
       → Entered class op id n
   entered class op id n own plain =
       let d = n.owner in
       let at = n.at in
       let f = n.place in
-      let of = own_method_named list files judged p is class op id n own plain in
+      let of = own_method_named list judged.codes p (is_of_files list files judged p is) class op id n own plain in
       let apart = own_names list.name p.files sound in
       let known = order_has list.name p.files sound d (has_named w d.name d n.named) own in
       let number_of = has-get d (class_order w) known in
@@ -267,7 +268,7 @@ module _ (list : ListTree) (files : List (List ℕ)) (judged : Judged) (p : Pack
       two true b e = (refl, e)
       two false b e = absurd cc
 
-  pub method_entry : (class : ClassTree) (op : ℕ) (id : MemberId) (n : Names_method list files judged p is class op id)
+  pub method_entry : (class : ClassTree) (op : ℕ) (id : MemberId) (n : Names_method list judged.codes p (is_of_files list files judged p is) class op id)
       → (let d = n.owner in d.is_imported) ≡ false → (let d = n.owner in is_interface d.flags) ≡ false
       → named_desc q (entry_of (names p) (keys.StaticMethod (of_class (let d = n.owner in d.name) id))) ≡ Some id.desc
   method_entry class op id n own plain =
@@ -287,7 +288,7 @@ module _ (list : ListTree) (files : List (List ℕ)) (judged : Judged) (p : Pack
       → is_interface c.flags ≡ false
       → named_desc q (entry_of (names p) (keys.StaticMethod (resolved_method w id))) ≡ Some id.desc
   called_entry class op id of c known own plain =
-      let n = called list files judged p is class op id of in
+      let n = called list judged.codes p (is_of_files list files judged p is) class op id of in
       let same : n.owner ≡ c = same_some (sym n.named ∙ sym (ap (λ (m : MemberId). class_named w m.class) n.resolved)
       ∙ known) in
       ap (λ m. named_desc q (entry_of (names p) (keys.StaticMethod m))) n.resolved

@@ -1,5 +1,5 @@
 -- All entries of a converted package's pool name members of their keys' descriptors.
-use Rattle.cjc_theorem.specs.ShapeProof.Written.Checked.{KeepsNames}
+use Rattle.cjc_narrow_proof.specs.Laws.Unbroken.{KeepsNames}
 use Rattle.cjc_theorem.proofs.ShapeProofOfFiles.{is_of_files}
 use Rattle.std.proofs.Common.{◌≡◌, ℕ, refl, sym, ap, subst, ◌∙◌, Bool, true, false, not, List}
 use Rattle.std.specs.Prelude.{◌||◌, Some, option_and_then}
@@ -27,6 +27,7 @@ use Rattle.cjc_theorem.proofs.ShapeProofWorlds.{own_solid}
 use Rattle.cjc_theorem.specs.LowerJudge.Rules.{settings_of}
 use Rattle.cjc_theorem.specs.LowerJudge.declared.judged.Judged.{Judged}
 use Rattle.cjc_theorem.specs.ShapeProof.Written.Converted.{IsConverted}
+use Rattle.cjc_theorem.proofs.ShapeProofOfFiles.{is_of_files}
 use Rattle.cjc_theorem.proofs.AlikeLaws.MetLaws.KeySources as sources
 use Rattle.cjc_theorem.proofs.AlikeLaws.MetLaws.KeySources.{IsMet, called, key_met}
 use Rattle.cjc_theorem.proofs.AlikeLaws.MetLaws.Own.{Names_method, declared_by, field_own, own_cell_named}
@@ -77,8 +78,8 @@ module _ (list : ListTree) (files : List (List ℕ)) (judged : Judged) (p : Pack
       put id of in
       let d = n.owner in
       let at = n.at in
-      let own = field_own list files judged p is id n in
-      let t = declared_by list files judged p is d n.named own at.place at.member at.is_member in
+      let own = field_own list judged.codes p (is_of_files list files judged p is) id n in
+      let t = declared_by list judged.codes p (is_of_files list files judged p is) d n.named own at.place at.member at.is_member in
       let f = t.tree in
       let name : f.name ≡ id.name = sym (ap (λ (v : Member). v.name) t.same) ∙ at.has_name in
       let desc : f.desc ≡ id.desc = sym (ap (λ (v : Member). v.desc) t.same) ∙ at.has_desc in
@@ -94,7 +95,7 @@ module _ (list : ListTree) (files : List (List ℕ)) (judged : Judged) (p : Pack
       )
 
   -- a static method, a constructor or a private method by the class that declares it
-  fixed_named : (class : ClassTree) (op : ℕ) (id : MemberId) (n : Names_method list files judged p is class op id)
+  fixed_named : (class : ClassTree) (op : ℕ) (id : MemberId) (n : Names_method list judged.codes p (is_of_files list files judged p is) class op id)
       → (let d = n.owner in is_interface d.flags) ≡ false
       → ((let d = n.owner in d.is_imported) ≡ true → is_unbound (let a = n.at in let m = a.member
       in m.flags) (let a = n.at in let m = a.member in m.name) ≡ true)
@@ -124,7 +125,7 @@ module _ (list : ListTree) (files : List (List ℕ)) (judged : Judged) (p : Pack
   special_named : (class : ClassTree) (id : MemberId) → is_interface class.flags ≡ false
       → IsInsnOf p.files judged.codes class (jop.Call 0xB7 id)
       → NamesItsDesc p (special_by class.name id (method_found w id))
-  special_named class id plain of = special_key list files judged p is (NamesItsDesc p) class.name class id n
+  special_named class id plain of = special_key list judged.codes p (is_of_files list files judged p is) (NamesItsDesc p) class.name class id n
       (λ e. fixed_named class 0xB7 id n (fixed_in_class list judged.codes p (is_of_files list files judged p is) class
       0xB7 id n
       (third (is_static flags) (is_private flags) (is_constructor id.name) e)) (λ import. bound e))
@@ -137,8 +138,8 @@ module _ (list : ListTree) (files : List (List ℕ)) (judged : Judged) (p : Pack
         tt,
       ))
     where
-      n : Names_method list files judged p is class 0xB7 id
-      n = called list files judged p is class 0xB7 id of
+      n : Names_method list judged.codes p (is_of_files list files judged p is) class 0xB7 id
+      n = called list judged.codes p (is_of_files list files judged p is) class 0xB7 id of
 
       flags : ℕ
       flags = let a = n.at in let m = a.member in m.flags
@@ -157,7 +158,7 @@ module _ (list : ListTree) (files : List (List ℕ)) (judged : Judged) (p : Pack
   one_named _ (sources.of_static class put id of none) =
       let n = static_named list.name p.files judged.codes (settings_of list) u (own_solid list files judged p is) class
       put id of in
-      let cell = own_cell_named list files judged p is told fit id n none in
+      let cell = own_cell_named list judged.codes p (is_of_files list files judged p is) told fit id n none in
       let apart = own_names list.name p.files sound in
       subst (λ (f : MemberId). NamesItsDesc p (keys.StaticField f)) (sym n.resolved) (
         cell_named p apart
@@ -171,7 +172,7 @@ module _ (list : ListTree) (files : List (List ℕ)) (judged : Judged) (p : Pack
   )
   one_named _ (sources.of_special j class id known plain of) = special_named class id plain of
   one_named _ (sources.of_call class id of) =
-      let n = called list files judged p is class 0xB8 id of in
+      let n = called list judged.codes p (is_of_files list files judged p is) class 0xB8 id of in
       let flags = (let a = n.at in let m = a.member in m.flags) in
       let static : is_static flags ≡ true = (let g = n.fits in g.of_class) refl in
       subst (λ (m : MemberId). NamesItsDesc p (keys.StaticMethod m)) (sym n.resolved) (fixed_named class 0xB8 id n
@@ -180,4 +181,4 @@ module _ (list : ListTree) (files : List (List ℕ)) (judged : Judged) (p : Pack
       static)) (λ import. ap (λ a. a || is_constructor (let a = n.at in let m = a.member in m.name)) static))
 
   pub all_named : CallsHaveOpcodes judged.codes → EntriesAreNamed p
-  all_named opcodes k key e = one_named key (key_met list files judged p is opcodes k key e)
+  all_named opcodes k key e = one_named key (key_met list judged.codes p (is_of_files list files judged p is) opcodes k key e)

@@ -77,7 +77,8 @@ use Rattle.cjc_accepted_proof.specs.Written.{written_pair}
 use Rattle.cjc_verify.specs.Frames.Acts.{given}
 use Rattle.cjc_verify.specs.ClassTypes.{class_type}
 use Rattle.cjc_theorem.proofs.ShapeProofDescs.{member_desc}
-use Rattle.cjc_theorem.proofs.ShapeProofFiles.{files_sound, own_unbroken, read_files}
+use Rattle.cjc_theorem.proofs.ShapeProofFiles.{files_sound, is_checked, own_methods, own_unbroken, read_files}
+use Rattle.cjc_shape_proof.proofs.WrittenLaws.Coded.{plain_here}
 use Rattle.cjc_theorem.proofs.ShapeProofOrder.{order_filed}
 use Rattle.cjc_theorem.proofs.VTableFiled.{Has, get-has, has-get}
 use Rattle.cjc_theorem.specs.LowerJudge.Rules.{settings_of}
@@ -384,7 +385,9 @@ module _ (list : ListTree) (files : List (List ℕ)) (judged : Judged) (p : Pack
           own_word_desc list.name p.files judged.codes (settings_of list) u code t x tree
           (coded.of_package list files judged p is k m is_laid g.class (g.member - length t.fields) t x tree is_class
           is_method is_code at_place) (coded.listed list files judged p is k m is_laid g.class (g.member - length
-          t.fields) t x tree is_class is_method is_code at_place) one.0 parsed.1 one.1 one.2
+          t.fields) t x tree is_class is_method is_code at_place)
+          (plain_here list judged.codes p (is_checked list files judged p is) (own_methods list files judged p is) k m
+          is_laid t x tree at_place) one.0 parsed.1 one.1 one.2
 
       short : length x.desc < 2 ^ 32
       short =

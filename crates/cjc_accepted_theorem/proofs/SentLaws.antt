@@ -32,6 +32,7 @@ use Rattle.cjc_accepted_proof.specs.Frames.{AreTypesFor, IsTypeFor, MethodFits, 
 use Rattle.cjc_check_proof.specs.Types.Types.{parts}
 use Rattle.cjc_accepted_proof.specs.Served.{entry_for, type_for}
 use Rattle.cjc_accepted_proof.specs.Written.{written_pair}
+use Rattle.cjc_theorem.proofs.ShapeProofOfFiles.{is_of_files}
 use Rattle.cjc_theorem.proofs.AlikeLaws.MetLaws.KeySources.{Calls_method, IsMet, called, of_virtual}
 use Rattle.cjc_theorem.proofs.ShapeProofFiles.{own_unbroken, read_files}
 use Rattle.cjc_theorem.specs.LowerJudge.Rules.{settings_of}
@@ -61,7 +62,7 @@ module _ (list : ListTree) (files : List (List ℕ)) (judged : Judged) (p : Pack
   pub word_of : (class : ClassTree) (op : ℕ) (id : MemberId) → IsInsnOf p.files codes class (jop.Call op id)
       → IsWordDesc id.desc
   word_of class op id of =
-      let n = called list files judged p is class op id of in
+      let n = called list judged.codes p (is_of_files list files judged p is) class op id of in
       let d = n.owner in
       let at = n.at in
       let parsed = member_desc p.files (read_files list files judged p is) d n.named at.place at.member at.is_member in
@@ -80,7 +81,7 @@ module _ (list : ListTree) (files : List (List ℕ)) (judged : Judged) (p : Pack
       → Holds (naming p) (keys.Virtual (virtual_by w id (class_named w id.class)))
       → SentAt id (virtual_by w id (class_named w id.class))
   sent_at class id of holds =
-      let n = called list files judged p is class 0xB6 id of in
+      let n = called list judged.codes p (is_of_files list files judged p is) class 0xB6 id of in
       let its = met (keys.Virtual (virtual_by w id (class_named w id.class))) (of_virtual class id of) in
       let word = word_of class 0xB6 id of in
       subst (SentAt id) (sym (ap (virtual_by w id) n.names_class)) (by (let c = n.named_class in c.is_imported) n word
@@ -88,7 +89,7 @@ module _ (list : ListTree) (files : List (List ℕ)) (judged : Judged) (p : Pack
       (subst (λ (g : MemberId). NamesItsDesc p (keys.Virtual g)) (ap (virtual_by w id) n.names_class) its))
     where
       N : Type 0
-      N = Calls_method list files judged p is class 0xB6 id
+      N = Calls_method list judged.codes p (is_of_files list files judged p is) class 0xB6 id
 
       made : (m : MemberId) (c d : Class) → m.desc ≡ id.desc → class_named w id.class ≡ Some c
           → class_named w m.class ≡ Some d → Below w id.class m.class → IsWordDesc id.desc

@@ -62,11 +62,12 @@ use Rattle.cjc_narrow_proof.specs.Runs.Types as there
 use Rattle.cjc_narrow_proof.specs.Tables.Arrays.{arraylength}
 use Rattle.cjc_narrow_proof.specs.Tables.Supported as plain
 use Rattle.cjc_narrow_proof.proofs.LawsLaws.Casts.{cast_there, test_there}
-use Rattle.cjc_narrow_proof.proofs.LawsLaws.Instructions.{array_of_class, new_fields, op_fit, op_there}
+use Rattle.cjc_narrow_proof.proofs.LawsLaws.Instructions.{array_of_class, kept_names, new_fields, op_fit, op_there}
 use Rattle.cjc_narrow_proof.proofs.SelectedLaws.Cuts.{decoded as is_decoded}
 use Rattle.cjc_narrow_proof.proofs.SelectedLaws.IntFree.{op_free}
 use Rattle.cjc_verified_proof.specs.Bytecode.ReadLaws.Instructions.{IsInstruction, has_opcode}
 use Rattle.cjc_shape_proof.proofs.FindsLaws.Descs.{read_of}
+use Rattle.cjc_shape_proof.proofs.WrittenLaws.Coded.{plain_here}
 use Rattle.cjc_accepted_proof.specs.Beside.{Beside, IsBeside, body_by_name, label_in, names_in, reached_in}
 use Rattle.cjc_accepted_proof.specs.Carded.{EntriesAreNamed}
 use Rattle.cjc_accepted_proof.specs.Coded.{card_type, is_of}
@@ -74,9 +75,10 @@ use Rattle.cjc_accepted_proof.specs.Frames.{MethodFits, PassesFor, SubtypesAgree
 use Rattle.cjc_accepted_proof.specs.Served.{CallServed, IsServed, TypeServed}
 use Rattle.cjc_accepted_proof.specs.Served as serves
 use Rattle.cjc_accepted_proof.specs.Written.{written_pair}
+use Rattle.cjc_theorem.proofs.ShapeProofOfFiles.{is_of_files}
 use Rattle.cjc_theorem.proofs.AlikeLaws.MetLaws.KeySources.{Calls_method, IsMet, called}
 use Rattle.cjc_theorem.proofs.AlikeLaws.NamedLaws.Means.{insn_held}
-use Rattle.cjc_theorem.proofs.ShapeProofFiles.{are_spelt, own_unbroken, read_files}
+use Rattle.cjc_theorem.proofs.ShapeProofFiles.{are_spelt, is_checked, own_methods, own_unbroken, read_files}
 use Rattle.cjc_theorem.proofs.ShapeProofWorlds.{own_solid}
 use Rattle.cjc_theorem.proofs.WholeRuns.Operations.{arith_plain, if_plain, load_is, narrow_plain, one_of, return_is}
 use Rattle.cjc_theorem.proofs.WholeRuns.Operations.{stack_plain, store_is}
@@ -242,7 +244,7 @@ module _ (list : ListTree) (files : List (List ℕ)) (judged : Judged) (p : Pack
         → Holding (jop.New name)
         → Served (jop.New name)
     new_served class name of holds_for =
-        let ok = op_there list.name p.files codes (settings_of list) u class (jop.New name) of in
+        let ok = op_there list.name p.files codes (settings_of list) (kept_names u) class (jop.New name) of in
         let holds = holds_for _ refl (keys.Class name) refl in
         by (class_named w name) refl (new_fields p.files class name ok.0 ok.2) holds
       where
@@ -269,8 +271,8 @@ module _ (list : ListTree) (files : List (List ℕ)) (judged : Judged) (p : Pack
         → Holding (jop.ANewArray name)
         → Served (jop.ANewArray name)
     array_served class name of holds_for =
-        let ok = op_there list.name p.files codes (settings_of list) u class (jop.ANewArray name) of in
-        let fit = op_fit list.name p.files codes (settings_of list) u class (jop.ANewArray name) of in
+        let ok = op_there list.name p.files codes (settings_of list) (kept_names u) class (jop.ANewArray name) of in
+        let fit = op_fit list.name p.files codes (settings_of list) (kept_names u) class (jop.ANewArray name) of in
         let c = array_of_class w name ok.0 fit.0 in
         let holds = holds_for _ refl (keys.Class name) refl in
         serves.an_array (class_ref p name) holds.there (array_typed list files judged p is name c.0 c.1)
@@ -334,7 +336,7 @@ module _ (list : ListTree) (files : List (List ℕ)) (judged : Judged) (p : Pack
         serves.static s.method s.entry s.right s.fits
 
     -- what a key of an invokespecial is
-    special_key : (id : MemberId) (n : Calls_method list files judged p is m.class 0xB7 id)
+    special_key : (id : MemberId) (n : Calls_method list judged.codes p (is_of_files list files judged p is) m.class 0xB7 id)
         → special_by (let c = m.class in c.name) id (method_found w id) ≡ (if is_constructor id.name || is_private (let
         a
         = n.at in let x = a.member in x.flags) then keys.StaticMethod (of_class (let d = n.owner in d.name) id)
@@ -344,7 +346,7 @@ module _ (list : ListTree) (files : List (List ℕ)) (judged : Judged) (p : Pack
 
     -- what an invokespecial calls above the class that holds the code
     abbrev IsAbove : MemberId → Type 0
-    IsAbove id = (n : Calls_method list files judged p is m.class 0xB7 id) × ((is_constructor id.name || is_private (let
+    IsAbove id = (n : Calls_method list judged.codes p (is_of_files list files judged p is) m.class 0xB7 id) × ((is_constructor id.name || is_private (let
         a
         = n.at in let x = a.member in x.flags)) ≡ false)
 
@@ -358,8 +360,8 @@ module _ (list : ListTree) (files : List (List ℕ)) (judged : Judged) (p : Pack
     unfolding with_pairs resolution
     special_served supers id of holds_for = by (is_constructor id.name || is_private flags) refl
       where
-        n : Calls_method list files judged p is m.class 0xB7 id
-        n = called list files judged p is m.class 0xB7 id of
+        n : Calls_method list judged.codes p (is_of_files list files judged p is) m.class 0xB7 id
+        n = called list judged.codes p (is_of_files list files judged p is) m.class 0xB7 id of
 
         flags : ℕ
         flags = let a = n.at in let x = a.member in x.flags
@@ -457,20 +459,19 @@ module _ (list : ListTree) (files : List (List ℕ)) (judged : Judged) (p : Pack
       op_served (jop.Call op id) of h holds_for = serves.a_call (call_served op id h.opcode of holds_for)
       op_served (jop.New name) of h holds_for = new_served m.class name of holds_for
       op_served (jop.NewArray n) of h holds_for = numbers_served n h (op_fit list.name p.files codes (settings_of
-          list) u m.class (jop.NewArray n) of).0 (op_free p.files codes u.no_int m.class (jop.NewArray n) of)
+          list) (kept_names u) m.class (jop.NewArray n) of).0
+          (op_free p.files codes u.no_int m.class (jop.NewArray n) of)
       op_served (jop.ANewArray name) of h holds_for = array_served m.class name of holds_for
       op_served jop.ArrayLength of h holds_for = serves.on_array arraylength
       op_served jop.Throw of h holds_for = serves.throws
       op_served (jop.CheckCast name) of h holds_for =
-          let c = cast_there list.name p.files codes (settings_of list) u (are_spelt list files judged p is) m.class
-          name
-          of in
+          let c = cast_there list.name p.files codes (settings_of list) (kept_names u)
+          (are_spelt list files judged p is) m.class name of in
           serves.a_cast (type_served name c.0 c.1 c.2 (λ number x e. holds_for (insns.TypeTest 0x94 number (Some x))
           (ap (type_test 0x94) c.1 ∙ e) (keys.Class x) refl))
       op_served (jop.InstanceOf name) of h holds_for =
-          let c = test_there list.name p.files codes (settings_of list) u (are_spelt list files judged p is) m.class
-          name
-          of in
+          let c = test_there list.name p.files codes (settings_of list) (kept_names u)
+          (are_spelt list files judged p is) m.class name of in
           serves.a_test (type_served name c.0 c.1 c.2 (λ number x e. holds_for (insns.TypeTest 0x95 number (Some x))
           (ap (type_test 0x95) c.1 ∙ asked c.0 number x e) (keys.Class x) refl))
         where
@@ -523,6 +524,8 @@ module _ (list : ListTree) (files : List (List ℕ)) (judged : Judged) (p : Pack
             method = m.method;
             tree = m.tree;
             of_package = b.is_method;
+            written = plain_here list codes p (is_checked list files judged p is) (own_methods list files judged p is)
+                b.number m.laid b.is_laid m.class m.method m.tree b.named;
             listed = b.listed;
             place = at;
             insn = i;

@@ -7,7 +7,7 @@ ghost use Rattle.cjc_theorem.specs.ShapeProof.Written.Converted.{IsConverted};
 ghost use Rattle.cjc_accepted_proof.specs.Accepted.{HasNoAbstract};
 
 use crate::headers::converted_methods_begin;
-use cjc_theorem::alike::export_files_are_kept;
+use cjc_theorem::alike::{converted_packages_are_laid_out, export_files_are_kept};
 use cjc_theorem::shape_proof::written::{
     converted_classes_keep_rules, converted_methods_are_consistent,
 };
@@ -25,6 +25,7 @@ pub fn converted_packages_have_no_abstract_methods()
     converted_classes_keep_rules();
     converted_methods_are_consistent();
     converted_methods_begin();
+    converted_packages_are_laid_out();
     dispatch_agrees();
     dispatch_laws();
     export_files_are_kept();

@@ -6,7 +6,7 @@ ghost use Rattle.cjc_verified_proof.specs.List.Listed.{ListTree};
 ghost use Rattle.cjc_theorem.specs.ShapeProof.Written.Converted.{IsConverted};
 ghost use Rattle.cjc_accepted_proof.specs.Carded.{HasCardTypes};
 
-use cjc_theorem::alike::calls_have_opcodes;
+use cjc_theorem::alike::{calls_have_opcodes, converted_packages_are_laid_out};
 
 /// The card has values of the types of all fields and methods of a converted package, of the methods that its abstract
 /// classes get, and of the members that its pool names.
@@ -15,4 +15,5 @@ pub fn converted_packages_have_card_types()
         → IsConverted list files judged p → HasCardTypes p }
 {
     calls_have_opcodes();
+    converted_packages_are_laid_out();
 }

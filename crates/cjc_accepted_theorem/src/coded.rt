@@ -25,7 +25,9 @@ use crate::served::{
 };
 use cjc_accepted_proof::beside::{checked_methods_have_tables, methods_stand_in_pairs};
 use cjc_accepted_proof::check_proof::code::methods_are_cut;
-use cjc_theorem::alike::{calls_have_opcodes, names_are_there, types_are_known};
+use cjc_theorem::alike::{
+    calls_have_opcodes, converted_packages_are_laid_out, names_are_there, types_are_known,
+};
 use cjc_theorem::shape_proof::written::{
     converted_methods_are_consistent, converted_methods_are_ready,
 };
@@ -55,6 +57,7 @@ pub fn converted_methods_stand_beside()
     converted_methods_are_consistent();
     converted_methods_are_read();
     converted_methods_begin();
+    converted_packages_are_laid_out();
     converted_packages_have_their_types();
     methods_are_cut();
     types_are_known();

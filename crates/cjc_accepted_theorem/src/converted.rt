@@ -13,6 +13,7 @@ use crate::carded::converted_packages_have_card_types;
 use crate::entries::converted_packages_have_named_entries;
 use crate::headers::converted_packages_have_fit_headers;
 use cjc_accepted_proof::accepted::written_packages_are_accepted;
+use cjc_theorem::alike::converted_packages_are_laid_out;
 use cjc_theorem::shape_proof::written::{
     converted_files_are_sound, converted_methods_are_consistent, sizes_fit,
 };
@@ -26,6 +27,7 @@ pub fn converted_packages_are_accepted()
 {
     converted_files_are_sound();
     converted_methods_are_consistent();
+    converted_packages_are_laid_out();
     converted_packages_have_card_types();
     converted_packages_have_fit_headers();
     converted_packages_have_named_entries();

@@ -22,7 +22,8 @@ ghost use Rattle.cjc_accepted_proof.specs.Carded.{EntriesAreNamed};
 ghost use Rattle.cjc_accepted_proof.specs.Written.{written_pair};
 
 use cjc_theorem::alike::{
-    calls_have_opcodes, export_files_are_kept, super_calls_are_named, virtual_calls_are_named,
+    calls_have_opcodes, converted_packages_are_laid_out, export_files_are_kept,
+    super_calls_are_named, virtual_calls_are_named,
 };
 use cjc_theorem::shape_proof::written::{
     converted_classes_keep_rules, converted_files_are_sound, converted_methods_are_consistent,
@@ -65,6 +66,7 @@ pub fn converted_packages_have_named_entries()
     converted_classes_keep_rules();
     converted_files_are_sound();
     converted_methods_are_consistent();
+    converted_packages_are_laid_out();
     dispatch_laws();
     export_files_are_kept();
     lookup_laws();

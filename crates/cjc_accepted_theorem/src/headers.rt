@@ -13,7 +13,7 @@ ghost use Rattle.cjc_accepted_theorem.specs.Begins.{Begins};
 
 use crate::carded::converted_packages_have_card_types;
 use cjc_accepted_proof::check_proof::code::{jumps_land_in_code, methods_are_cut};
-use cjc_theorem::alike::{calls_have_opcodes, names_are_there};
+use cjc_theorem::alike::{calls_have_opcodes, converted_packages_are_laid_out, names_are_there};
 use cjc_theorem::shape_proof::written::{
     converted_methods_are_consistent, converted_methods_are_in_order, converted_methods_are_ready,
 };
@@ -42,6 +42,7 @@ pub fn converted_packages_have_fit_headers()
 {
     converted_methods_are_consistent();
     converted_methods_begin();
+    converted_packages_are_laid_out();
     converted_packages_have_card_types();
     jumps_land_in_code();
     methods_are_cut();

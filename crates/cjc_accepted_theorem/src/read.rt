@@ -10,6 +10,7 @@ ghost use Rattle.cjc_accepted_proof.specs.Frames.{AreFew, SubtypesAgree, type_na
 ghost use Rattle.cjc_accepted_proof.specs.Read.{RefsAreRead};
 
 use cjc_accepted_proof::subtypes::subtypes_are_read;
+use cjc_theorem::alike::converted_packages_are_laid_out;
 use cjc_theorem::shape_proof::written::laid_out_packages_fit;
 use cjc_verified_proof::token_proof::by_token::kinds_are_subtypes;
 
@@ -25,6 +26,7 @@ pub fn converted_packages_have_their_types()
     ensures few { (list : ListTree) (files : List (List ℕ)) (judged : Judged) (p : Package)
         → IsConverted list files judged p → (let n = naming p in AreFew (type_named (world p) n.class_ref)) }
 {
+    converted_packages_are_laid_out();
     kinds_are_subtypes();
     laid_out_packages_fit();
     subtypes_are_read();

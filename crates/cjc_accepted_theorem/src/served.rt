@@ -27,8 +27,8 @@ use cjc_accepted_proof::described::descriptor_says_what_the_package_says;
 use cjc_accepted_proof::elements::types_of_arrays_agree;
 use cjc_accepted_proof::outside::rows_outside_pairs_stand;
 use cjc_theorem::alike::{
-    calls_have_opcodes, export_files_are_kept, names_are_there, super_calls_are_named,
-    types_are_known, virtual_calls_are_named,
+    calls_have_opcodes, converted_packages_are_laid_out, export_files_are_kept, names_are_there,
+    super_calls_are_named, types_are_known, virtual_calls_are_named,
 };
 use cjc_theorem::shape_proof::written::{
     converted_classes_keep_rules, converted_files_are_sound, converted_methods_are_consistent,
@@ -70,6 +70,7 @@ pub fn calls_above_are_served()
     converted_methods_are_in_order();
     converted_methods_are_ready();
     converted_methods_begin();
+    converted_packages_are_laid_out();
     converted_packages_have_card_types();
     converted_packages_have_named_entries();
     converted_packages_have_their_types();
@@ -103,6 +104,7 @@ pub fn converted_instructions_are_served()
     converted_files_are_sound();
     converted_methods_are_consistent();
     converted_methods_begin();
+    converted_packages_are_laid_out();
     converted_packages_have_card_types();
     converted_packages_have_named_entries();
     converted_packages_have_their_types();

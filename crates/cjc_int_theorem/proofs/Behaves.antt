@@ -1,14 +1,11 @@
 -- The tables of a package by modes that breaks no rule, by which its components behave as its class files.
 use Rattle.std.proofs.Common.{◌≡◌, ℕ, refl, sym, ap, subst, ◌∙◌, Bool, true, false, List, []}
 use Rattle.std.specs.Prelude.{not, ◌&&◌, Option, Some, None, slice_get, if◌then◌else◌}
-use Rattle.std.specs.List.{Contains}
 use Rattle.cjc_classes.specs.JvmSemantics.Linked.{Method}
 use Rattle.cjc_classes.specs.JvmSemantics.OnePackage.{is_initialiser, method_at, method_by}
 use Rattle.cjc_classes.specs.List.Listed.{ListTree}
-use Rattle.cjc_classes.specs.Narrow.Rows.Resolved.{constant_named}
 use Rattle.cjc_classes.specs.Narrow.Rows.Selected.{near_fields}
 use Rattle.cjc_classes.specs.Types.Flow.{Body, body_of}
-use Rattle.cjc_classes.specs.Types.Tables.{rows_of}
 use Rattle.cjc_classes.specs.Types.declared.state.State.{State}
 use Rattle.cjc_components.specs.Bytecode.declared.method_code.MethodCode.{MethodCode}
 use Rattle.cjc_components.specs.Package.{LaidMethod, Package, pool}

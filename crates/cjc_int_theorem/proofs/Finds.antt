@@ -1,11 +1,11 @@
 -- What code and scripts of a package by modes name is found as whole runs by modes ask, where each of its methods begins
 -- in its mode.
-use Rattle.std.proofs.Common.{◌≡◌, ℕ, refl, sym, ap, subst, ◌∙◌, Bool, true, false, not, List, [], ◌∷◌}
+use Rattle.std.proofs.Common.{◌≡◌, ℕ, refl, sym, ap, subst, ◌∙◌, Bool, true, false, not, List}
 use Rattle.std.specs.Prelude.{Some}
 use Rattle.std.specs.List.{list_all}
 use Rattle.cjc_bytes.specs.AccessFlags.{is_static}
 use Rattle.cjc_bytes.specs.declared.fault.MemberId.{MemberId}
-use Rattle.cjc_check_proof.specs.WorldProof.Calls.Solid.{IsOwn, IsSolid}
+use Rattle.cjc_check_proof.specs.WorldProof.Calls.Solid.{IsSolid}
 use Rattle.cjc_check_proof.specs.WorldProof.Calls.Targets.{IsOwnCode, IsReceiver, IsTarget}
 use Rattle.cjc_check_proof.specs.WorldProof.Calls.Targets as targets
 use Rattle.cjc_check_proof.proofs.WorldProofTypes.{below_type}
@@ -20,7 +20,7 @@ use Rattle.cjc_components.specs.Bytecode.declared.insn.JOp.TheVariants as jop
 use Rattle.cjc_components.specs.Bytecode.declared.method_code.MethodCode.{MethodCode}
 use Rattle.cjc_components.specs.Package.{Package}
 use Rattle.cjc_jvm_semantics.specs.ByName.{linked}
-use Rattle.cjc_narrow_proof.specs.Laws.Unbroken.{IsInsnOf}
+use Rattle.cjc_narrow_proof.specs.Laws.Unbroken.{IsInsnOf, KeepsNames}
 use Rattle.cjc_narrow_proof.specs.NCode.ByLabel.{Named}
 use Rattle.cjc_narrow_proof.specs.NCode.declared.narrow.NMethod.{NMethod}
 use Rattle.cjc_narrow_proof.specs.Runs.Tables.{Tables}
@@ -32,7 +32,7 @@ use Rattle.cjc_shape_proof.specs.Finds.{IsNamedMethod, IsOfClass, IsOnReceiver, 
 use Rattle.cjc_shape_proof.specs.Finds.{IsStaticFieldFound, IsUsable, finds_cell, finds_constant, finds_member}
 use Rattle.cjc_shape_proof.specs.Finds.{finds_none}
 use Rattle.cjc_shape_proof.specs.Whole.{Accepts}
-use Rattle.cjc_shape_proof.specs.Written.Checked.{IsChecked, KeepsNames}
+use Rattle.cjc_shape_proof.specs.Written.Checked.{IsChecked}
 use Rattle.cjc_shape_proof.proofs.FindsLaws.Calls.{interface_call, special_call, static_call, virtual_call}
 use Rattle.cjc_shape_proof.proofs.FindsLaws.Descs.{parts_are}
 use Rattle.cjc_shape_proof.proofs.FindsLaws.Fields.{field_is, value_field}
@@ -51,9 +51,7 @@ use Rattle.cjc_int_alike.proofs.Reached.{receiver_called, static_called}
 use Rattle.cjc_int_theorem.proofs.IntTables.{int_desc, of_values}
 use Rattle.cjc_int_theorem.specs.Tabled.{IsOwnMethod}
 use Rattle.cjc_world.specs.ClassFile.declared.tree.ClassTree.{ClassTree}
-use Rattle.cjc_world.specs.ClassFile.declared.tree.MethodTree.{MethodTree}
 use Rattle.cjc_world.specs.Classes.{Class, all_classes}
-use Rattle.cjc_world.specs.Files.{Files}
 use Rattle.cjc_world.specs.Lookup.{object}
 use Rattle.cjc_world.specs.Subtype.{is_subtype}
 

@@ -2,9 +2,8 @@
 use Rattle.std.proofs.Common.{◌≡◌, ℕ, ◌<◌, refl, sym, ap, subst, ◌∙◌, arith, Bool, true, false, List, [], ◌∷◌}
 use Rattle.std.specs.Prelude.{Option, Some, nat_lt, slice_get, if◌then◌else◌}
 use Rattle.cjc_bytes.specs.declared.fault.MemberId.{MemberId}
-use Rattle.cjc_check_proof.specs.WorldProof.Calls.Solid.{IsSolid}
 use Rattle.cjc_classes.specs.JvmSemantics.Linked.{Method}
-use Rattle.cjc_classes.specs.JvmSemantics.OnePackage.{method_by, object_fields}
+use Rattle.cjc_classes.specs.JvmSemantics.OnePackage.{is_initialiser, method_by, object_fields}
 use Rattle.cjc_classes.specs.List.Listed.{ListTree}
 use Rattle.cjc_classes.specs.Subset.Types.{is_unsupported_number, names_unsupported}
 use Rattle.cjc_classes.specs.Types.Flow.{Body, body_of}
@@ -37,7 +36,7 @@ use Rattle.cjc_narrow_proof.specs.Runs.Tables.{Tables}
 use Rattle.cjc_narrow_proof.specs.Tables.Arrays.{aaload, aastore, arraylength, baload, bastore, saload, sastore}
 use Rattle.cjc_narrow_proof.specs.Tables.Calls.{count_of}
 use Rattle.cjc_narrow_proof.specs.Tables.Supported as plain
-use Rattle.cjc_narrow_proof.proofs.LawsLaws.Instructions.{array_of_class, new_fields}
+use Rattle.cjc_narrow_proof.proofs.LawsLaws.Instructions.{array_of_class, new_fields, op_fit, op_there}
 use Rattle.cjc_narrow_proof.proofs.SelectedLaws.Cuts.{decoded as is_decoded}
 use Rattle.cjc_narrow_proof.proofs.TablesLaws.Typed.{IsTypedRow, typed_row}
 use Rattle.cjc_ncode.proofs.BytecodeDecoded.{decoded_instruction}
@@ -46,7 +45,7 @@ use Rattle.cjc_shape_proof.specs.Whole.{Accepts, HoldsFor}
 use Rattle.cjc_shape_proof.specs.Written.Checked.{IsChecked}
 use Rattle.cjc_shape_proof.proofs.FindsLaws.Descs.{read_of}
 use Rattle.cjc_shape_proof.proofs.WrittenLaws.Checked.{are_spelt, own_names, own_solid, read_files}
-use Rattle.cjc_shape_proof.proofs.WrittenLaws.Insns.{cast_there, op_fit, op_there, test_there}
+use Rattle.cjc_narrow_proof.proofs.LawsLaws.Casts.{cast_there, test_there}
 use Rattle.cjc_theorem.proofs.WholeRuns.Objects.{objects_have_values}
 use Rattle.cjc_theorem.proofs.WholeRuns.Operations.{arith_plain, if_plain, narrow_plain, one_of, return_is, stack_plain}
 use Rattle.cjc_vtable.specs.Fixpoint.Tables.{HasRow}
@@ -127,7 +126,10 @@ module _ (list : ListTree) (codes : List MethodCode) (p : Package) (is : IsCheck
           (λ f. booleans),
           (
             (λ f. absurd cc),
-            ((λ f. absurd cc), ((λ f. absurd cc), ((λ f. bytes), ((λ f. shorts), ((λ f. ints), ((λ f. absurd cc), tt)))))),
+            (
+              (λ f. absurd cc),
+              ((λ f. absurd cc), ((λ f. bytes), ((λ f. shorts), ((λ f. ints), ((λ f. absurd cc), tt))))),
+            ),
           ),
         )
         h.numbers
@@ -179,7 +181,8 @@ module _ (list : ListTree) (codes : List MethodCode) (p : Package) (is : IsCheck
   -- ---- a method
 
   module _ (code : MethodCode) (class : ClassTree) (method : MethodTree) (tree : CodeTree)
-      (of : IsMethodOf p.files code class method tree) (listed : Contains codes code) where
+      (of : IsMethodOf p.files code class method tree) (listed : Contains codes code)
+      (written : is_initialiser method.name ≡ false) where
     abbrev body : Body
     body = body_of class method tree code.insns
 
@@ -194,6 +197,7 @@ module _ (list : ListTree) (codes : List MethodCode) (p : Package) (is : IsCheck
       method = method;
       tree = tree;
       of_package = of;
+      written = written;
       listed = listed;
       place = at;
       insn = i;

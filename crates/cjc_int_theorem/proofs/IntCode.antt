@@ -1,5 +1,5 @@
 -- What is written for a method in int mode of a package by modes can be written.
-use Rattle.std.proofs.Common.{◌≡◌, ℕ, zero, suc, ◌+◌, ◌*◌, ◌<◌, ◌≤◌, arith, refl, sym, ap, subst, ◌∙◌, true, List, []}
+use Rattle.std.proofs.Common.{◌≡◌, ℕ, zero, suc, ◌+◌, ◌*◌, ◌≤◌, arith, refl, sym, ap, subst, ◌∙◌, true, List, []}
 use Rattle.std.proofs.Common.{◌∷◌, length}
 use Rattle.std.specs.Prelude.{Option, Some, None, slice_get, sum_by, ℤ}
 use Rattle.std.proofs.lemmas.List.Sums.{sum_by-cons}
@@ -26,7 +26,7 @@ use Rattle.cjc_int_narrow.specs.LowerIntProof.Operands.{IsInt, OperandsFit}
 use Rattle.cjc_int_narrow.specs.Select.{IsSelectable, OperandsStand}
 use Rattle.cjc_int_narrow.proofs.Stands.{int_code_whole}
 use Rattle.cjc_int_narrow.proofs.Whole.{few_enough}
-use Rattle.cjc_ncode.specs.IntCode.IntCode.{Frame, Reached, nargs, widest, widest_sum}
+use Rattle.cjc_ncode.specs.IntCode.IntCode.{Frame, Reached, nargs, widest}
 use Rattle.cjc_narrow_proof.specs.NCode.Lowering.Naming.{Naming}
 use Rattle.cjc_narrow_proof.specs.NCode.Written.{Resolution}
 use Rattle.cjc_narrow_proof.specs.NCode.declared.narrow.NInsn.{NInsn}

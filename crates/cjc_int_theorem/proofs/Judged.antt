@@ -1,5 +1,5 @@
 -- A package of files that were judged, by the modes of its methods, where its files break no rule.
-use Rattle.std.proofs.Common.{◌≡◌, ℕ, ◌<◌, refl, sym, ap, subst, ◌∙◌, arith, Bool, true, false, List, length, inr}
+use Rattle.std.proofs.Common.{◌≡◌, ℕ, refl, sym, ap, subst, ◌∙◌, arith, Bool, true, false, List, inr}
 use Rattle.std.proofs.Common.{⊎_elim}
 use Rattle.std.specs.Prelude.{not, ◌&&◌, Option, Some, None, slice_get}
 use Rattle.std.specs.List.{Contains}
@@ -12,7 +12,6 @@ use Rattle.cjc_classes.specs.JvmSemantics.OnePackage.{is_initialiser, method_by}
 use Rattle.cjc_classes.specs.List.Listed.{ListTree}
 use Rattle.cjc_classes.specs.Types.Flow.{Body, body_of}
 use Rattle.cjc_classes.specs.Types.Tables.{Breach, IsMethodOf, IsTypeTable, rows_of}
-use Rattle.cjc_classes.specs.Types.declared.state.State.{State}
 use Rattle.cjc_classes.specs.Types.declared.table.TypeTable.{TypeTable}
 use Rattle.cjc_components.specs.Bytecode.PackageCodes.{all_codes}
 use Rattle.cjc_components.specs.Bytecode.declared.method_code.MethodCode.{MethodCode}
@@ -35,7 +34,6 @@ use Rattle.cjc_shape_proof.proofs.ShapeSound.{are_ready}
 use Rattle.cjc_shape_proof.specs.Flow.Tests.Breaches.{FirstBreach, IsFirstBroken, NoBreach}
 use Rattle.cjc_shape_proof.specs.Flow.Tests.Working.Search.{first_from}
 use Rattle.cjc_shape_proof.specs.Flow.declared.tests.passing.Tested.TheVariants as tests
-use Rattle.cjc_shape_proof.specs.Intervals.Frames.{RangeState}
 use Rattle.cjc_shape_proof.specs.LowerJudge.Rules.{BreaksAnyRange, files_spelt, method_break, of_group}
 use Rattle.cjc_shape_proof.specs.LowerJudge.Spelt.{FileTree, classes_of}
 use Rattle.cjc_shape_proof.specs.LowerJudge.declared.groups.Group.TheVariants as groups

@@ -1,13 +1,13 @@
 -- The methods of a package by modes come to their code as its consistency and its run by token ask.
 use Rattle.std.proofs.Common.{◌≡◌, ℕ, ◌≤◌, arith, refl, sym, ap, subst, ◌∙◌, Bool, true, false, List, [], length}
-use Rattle.std.specs.Prelude.{◌||◌, not, Option, Some, None, slice_get}
+use Rattle.std.specs.Prelude.{not, Some, slice_get}
 use Rattle.std.specs.List.{Contains}
 use Rattle.cjc_bytes.specs.declared.fault.MemberId.{MemberId}
 use Rattle.cjc_bytes.proofs.Bools.{or_right}
 use Rattle.cjc_bytes.proofs.Numbers.{none_at}
 use Rattle.cjc_check_proof.proofs.PromisesLaws.Written.{made_abstract, made_selected, made_without}
 use Rattle.cjc_check_proof.specs.CapRead.declared.tree.PoolEntry.{PoolEntry}
-use Rattle.cjc_check_proof.specs.Made.{IsMade, by_selection, without_code}
+use Rattle.cjc_check_proof.specs.Made.{by_selection, without_code}
 use Rattle.cjc_check_proof.specs.TokenProof.WrittenCalls.Standing.{AreMethods, IsSmall}
 use Rattle.cjc_check_proof.specs.TokenProof.WrittenSends.Named.{CodeNamesAsWritten}
 use Rattle.cjc_classes.specs.Emit.Emitted.{CanBeWritten, placed_at}
@@ -17,21 +17,17 @@ use Rattle.cjc_classes.specs.Layout.Handlers.{AllLie}
 use Rattle.cjc_classes.specs.Layout.Layouts.{IsWhole}
 use Rattle.cjc_classes.specs.Layout.Sizes.{AllLead, widest_size}
 use Rattle.cjc_classes.specs.List.Listed.{ListTree}
-use Rattle.cjc_classes.specs.Narrow.Rows.Package.{code_of}
 use Rattle.cjc_classes.specs.Narrow.Rows.Resolved.{argument_words, resolution}
 use Rattle.cjc_classes.specs.Narrow.Rows.Selected.{near_fields, paired, selected_code}
 use Rattle.cjc_classes.specs.Narrow.Written.Rows.{by_rows_there, has_rows, has_rows_by, rows_by}
 use Rattle.cjc_classes.specs.Subset.Ints.{code_works_on_int}
 use Rattle.cjc_classes.specs.Types.Flow.{body_of}
-use Rattle.cjc_classes.specs.Types.Tables.{IsLeastTable, IsMethodOf}
-use Rattle.cjc_classes.specs.Types.declared.state.State.{State}
+use Rattle.cjc_classes.specs.Types.Tables.{IsLeastTable}
 use Rattle.cjc_components.specs.Bytecode.PackageCodes.{all_codes}
 use Rattle.cjc_components.specs.Bytecode.declared.method_code.MethodCode.{MethodCode}
-use Rattle.cjc_components.specs.Limits.{has_many_words}
-use Rattle.cjc_components.specs.Names.{interface_token, naming_over}
-use Rattle.cjc_components.specs.Package.{LaidMethod, Package, pool, world}
-use Rattle.cjc_components.specs.Written.{IsWritten, code_by}
-use Rattle.cjc_narrow_proof.proofs.SelectedLaws.IntFree.{code_free, none_without}
+use Rattle.cjc_components.specs.Names.{naming_over}
+use Rattle.cjc_components.specs.Package.{LaidMethod, Package, pool}
+use Rattle.cjc_narrow_proof.proofs.SelectedLaws.IntFree.{none_without}
 use Rattle.cjc_narrow_proof.proofs.SelectedLaws.Run.{same_code}
 use Rattle.cjc_narrow_proof.proofs.SelectedLaws.Selectable.{selectable}
 use Rattle.cjc_narrow_proof.proofs.SelectedLaws.Whole.{selected_whole}
@@ -40,8 +36,6 @@ use Rattle.cjc_narrow_proof.specs.NCode.Lowering.Naming.{Naming}
 use Rattle.cjc_narrow_proof.specs.NCode.Written.{narrow_method}
 use Rattle.cjc_narrow_proof.specs.NCode.declared.narrow.NCatch.{NCatch}
 use Rattle.cjc_narrow_proof.specs.NCode.declared.narrow.NInsn.{NInsn}
-use Rattle.cjc_narrow_proof.specs.NCode.declared.narrow.NInsn.TheVariants as insns
-use Rattle.cjc_narrow_proof.specs.NCode.declared.narrow.NMethod.{NMethod}
 use Rattle.cjc_narrow_proof.specs.Selected.Operands.{NumbersFit}
 use Rattle.cjc_int_narrow.specs.LowerIntMode.Room.{IsRoom}
 use Rattle.cjc_int_narrow.specs.LowerIntMode.Written.{written_in_int_mode}
@@ -60,7 +54,6 @@ use Rattle.cjc_int_components.proofs.Operations.{names_by_modes}
 use Rattle.cjc_int_components.proofs.Room.{room_in_int_mode, works_in_int_mode}
 use Rattle.cjc_int_components.proofs.Words.{methods_are}
 use Rattle.cjc_shape.specs.LowerJudge.Rules.{settings_of}
-use Rattle.cjc_world.specs.Classes.{all_classes}
 use Rattle.cjc_world.specs.Files.{Files}
 use Rattle.cjc_shape_proof.proofs.WrittenLaws.Coded.{ComesFrom, IsCoded, comes_from, from_abstract, from_code}
 use Rattle.cjc_shape_proof.proofs.WrittenLaws.Coded.{from_none, own_at}
@@ -131,8 +124,8 @@ module _ (list : ListTree) (codes : List MethodCode) (t : Tables) (p : Package) 
           by : (b : Bool) → list.ints ≡ b → code_works_on_int p.files c.code ≡ false
           by true ints = works_in_int_mode p.files t (subst (λ b. AreModes b p.files t) ints is.modes) c.code c.class
               c.method c.tree listed c.of c.plain mode
-          by false ints = code_free p.files codes (none_without list.name p.files codes (settings_of list)
-              is.checked.checks ints) c.code c.listed
+          by false ints = none_without list.name p.files codes (settings_of list)
+              is.checked.checks ints c.code c.class c.method c.tree c.listed c.of c.plain
 
       -- 417
       room : t.mode x ≡ modes.Int → IsRoom (body_of c.class c.method c.tree (let d = c.code in d.insns)) (t.types x)

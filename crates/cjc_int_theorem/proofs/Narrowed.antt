@@ -4,7 +4,7 @@ use Rattle.std.specs.Prelude.{Some, slice_get}
 use Rattle.cjc_bytes.specs.declared.fault.MemberId.{MemberId}
 use Rattle.cjc_bytes.proofs.Bools.{true_not_false}
 use Rattle.cjc_classes.specs.JvmSemantics.Linked.{Method}
-use Rattle.cjc_classes.specs.JvmSemantics.OnePackage.{method_by}
+use Rattle.cjc_classes.specs.JvmSemantics.OnePackage.{is_initialiser, method_by}
 use Rattle.cjc_classes.specs.List.Listed.{ListTree}
 use Rattle.cjc_classes.specs.Subset.Ints.{works_on_int}
 use Rattle.cjc_classes.specs.Types.Flow.{body_of}
@@ -42,7 +42,9 @@ use Rattle.cjc_shape_proof.proofs.FindsLaws.Receivers.{root_abroad, root_of}
 use Rattle.cjc_shape_proof.proofs.WrittenLaws.Checked.{are_spelt, own_names, own_solid, read_files}
 use Rattle.cjc_theorem.proofs.WholeRuns.Statics.{static_found}
 use Rattle.cjc_vtable.specs.Fixpoint.Tables.{HasRow}
+use Rattle.cjc_world.specs.ClassFile.Code.{CodeTree}
 use Rattle.cjc_world.specs.ClassFile.declared.tree.ClassTree.{ClassTree}
+use Rattle.cjc_world.specs.ClassFile.declared.tree.MethodTree.{MethodTree}
 use Rattle.cjc_world.specs.Classes.{all_classes}
 
 module _ (list : ListTree) (codes : List MethodCode) (t : Tables) (p : Package) (is : IsConvertedByModes list codes t p)
@@ -79,27 +81,41 @@ module _ (list : ListTree) (codes : List MethodCode) (t : Tables) (p : Package) 
 
   -- ---- what instructions name
 
+  -- a method of the package with code that is no initialiser
+  written : (m : Method) → IsOwnMethod p.files m → (class : ClassTree) (method : MethodTree) (tree : CodeTree)
+      → m ≡ method_by class method (Some tree) → is_initialiser method.name ≡ false
+  written m own class method tree same =
+      ap is_initialiser (ap (λ (x : Method). let id = x.id in id.name) (sym same ∙ own.is)) ∙ own.plain
+
   named : (m : Method) (at : ℕ) (i : JInsn) (s : State) → slice_get m.insns at ≡ Some i → HasRow (tables.types m) at s
       → IsIntNamed p.files p.image near tables is_int m (cells_of s.stack) i.op
   named m at i s insn row = by (tabled.own m (tabled.only m at s row))
     where
+      other : (class : ClassTree) (method : MethodTree) (tree : CodeTree) → m ≡ method_by class method (Some tree)
+          → is_initialiser method.name ≡ false
+      other = written m (tabled.only m at s row)
+
       by : IsTabledByMode p.files codes tables is_int m
           → IsIntNamed p.files p.image near tables is_int m (cells_of s.stack) i.op
       by (tabled_int on h listed) =
           let here = ap (λ xs. slice_get xs at) (sym (ap (λ (x : Method). x.insns) h.is ∙ insns_are list codes p
-          is.checked near tables is_int begins h.code h.class h.method h.tree h.of_package listed)) ∙ insn in
+          is.checked near tables is_int begins h.code h.class h.method h.tree h.of_package listed
+          (other h.class h.method h.tree h.is))) ∙ insn in
           subst (λ x. IsIntNamed p.files p.image near tables is_int x (cells_of s.stack) i.op) (sym h.is)
           (row_named list codes p is.checked near tables is_int begins h.code h.class h.method h.tree h.of_package
-          listed (tables.types (method_by h.class h.method (Some h.tree))) h.unbroken at i s here
+          listed (other h.class h.method h.tree h.is) (tables.types (method_by h.class h.method (Some h.tree)))
+          h.unbroken at i s here
           (subst (λ (x : Method). HasRow (tables.types x) at s) h.is row))
       by (tabled_short off h listed free) =
           let code = h.code in
           let table_is = h.is_table in
           let here = ap (λ xs. slice_get xs at) (sym (ap (λ (x : Method). x.insns) h.is ∙ insns_are list codes p
-          is.checked near tables is_int begins h.code h.class h.method h.tree h.of_package listed)) ∙ insn in
+          is.checked near tables is_int begins h.code h.class h.method h.tree h.of_package listed
+          (other h.class h.method h.tree h.is))) ∙ insn in
           subst (λ x. IsIntNamed p.files p.image near tables is_int x (cells_of s.stack) i.op) (sym h.is)
           (row_named list codes p is.checked near tables is_int begins h.code h.class h.method h.tree h.of_package
-          listed (rows_of (body_of h.class h.method h.tree code.insns) h.table) table_is.unbroken at i s here
+          listed (other h.class h.method h.tree h.is) (rows_of (body_of h.class h.method h.tree code.insns) h.table)
+          table_is.unbroken at i s here
           (subst (λ rows. HasRow rows at s) h.types row))
 
   -- ---- outside int mode all has one word
@@ -154,13 +170,18 @@ module _ (list : ListTree) (codes : List MethodCode) (t : Tables) (p : Package) 
       → HasRow (tables.types m) at s → IsOneWord i.op
   one_word m at i s off insn row = by (tabled.own m (tabled.only m at s row))
     where
+      other : (class : ClassTree) (method : MethodTree) (tree : CodeTree) → m ≡ method_by class method (Some tree)
+          → is_initialiser method.name ≡ false
+      other = written m (tabled.only m at s row)
+
       by : IsTabledByMode p.files codes tables is_int m → IsOneWord i.op
       by (tabled_int on h listed) = absurd (true_not_false (is_int m) on off)
       by (tabled_short off_too h listed free) =
           let here = ap (λ xs. slice_get xs at) (sym (ap (λ (x : Method). x.insns) h.is ∙ insns_are list codes p
-          is.checked near tables is_int begins h.code h.class h.method h.tree h.of_package listed)) ∙ insn in
+          is.checked near tables is_int begins h.code h.class h.method h.tree h.of_package listed
+          (other h.class h.method h.tree h.is))) ∙ insn in
           word_of h.class i.op (insn_is list codes p is.checked near tables is_int begins h.code h.class h.method h.tree
-          h.of_package listed at i here)
+          h.of_package listed (other h.class h.method h.tree h.is) at i here)
           (insn_free p.files h.code h.class h.method h.tree h.of_package free at i here)
 
   -- ---- the package

@@ -1,7 +1,6 @@
--- What Method has of a package by modes is the narrow code by its tables and modes, and its components behave as its
--- class files.
+-- What Method has of a package by modes is the narrow code by its tables and modes.
 use Rattle.std.proofs.Common.{◌≡◌, ◌⊎◌, ℕ, refl, sym, ap, subst, ◌∙◌, ⊎_elim, Bool, true, false, List, []}
-use Rattle.std.specs.Prelude.{◌≢◌, Option, Some, None, option_map, slice_get}
+use Rattle.std.specs.Prelude.{Option, Some, None, option_map, slice_get}
 use Rattle.std.proofs.lemmas.Option.{slice_get-map}
 use Rattle.cjc_bytes.specs.declared.fault.MemberId.{MemberId}
 use Rattle.cjc_check_proof.proofs.WorldProofOwn.{mapped_at}
@@ -18,13 +17,9 @@ use Rattle.cjc_classes.specs.Narrow.Written.Rows.{has_rows}
 use Rattle.cjc_classes.specs.Types.declared.state.State.{State}
 use Rattle.cjc_components.specs.Bytecode.declared.method_code.MethodCode.{MethodCode}
 use Rattle.cjc_components.specs.Package.{LaidMethod, Package, pool}
-use Rattle.cjc_narrow_proof.specs.CardSemantics.Bytecode.Runs.{Agree, Alike}
 use Rattle.cjc_narrow_proof.specs.NCode.Written.{narrow_method}
 use Rattle.cjc_narrow_proof.specs.NCode.declared.narrow.NMethod.{NMethod}
 use Rattle.cjc_narrow_proof.specs.Runs.Tables.{Tables as RunTables}
-use Rattle.cjc_token_proof.specs.Script.Agree.{IsBegun}
-use Rattle.cjc_narrow_proof.specs.Script.declared.report.Outcome.TheVariants.{Stuck}
-use Rattle.cjc_narrow_proof.specs.Script.declared.report.Report.{Report}
 use Rattle.cjc_int_alike.specs.ByModes.{code_by, codes_by_mode}
 use Rattle.cjc_int_components.specs.Modes.{Tables, is_int}
 use Rattle.cjc_int_components.specs.Written.{code_by_mode, code_in}
@@ -44,22 +39,6 @@ use Rattle.cjc_world.specs.declared.found.Found.{Found}
 use Rattle.cjc_int_theorem.specs.Alike.{AreRunBy}
 use Rattle.cjc_int_theorem.specs.Tabled.{IsOwnMethod}
 use Rattle.cjc_int_theorem.specs.ByModes.{IsConvertedByModes}
-
--- ---- runs
-
--- those that agree do so with any run that has the same reports
-module _ (bound : ℕ) (one other another : ℕ → Report) (agree : Agree bound one other)
-    (same : (n : ℕ) → another n ≡ other n) where
-  pub agree_too : Agree bound one another
-  agree_too = record {
-    notes = λ n m. subst (λ (r : Report). IsBegun (one n).notes r.notes ⊎ IsBegun r.notes (one n).notes) (sym (same m))
-        (agree.notes n m);
-    ends = λ n m le over. subst (λ (r : Report). Alike r (one n)) (sym (same m)) (agree.ends n m le over);
-    ends_only = λ n m le over. subst (λ (r : Report). Alike (one m) r) (sym (same n)) (agree.ends_only n m le
-        (λ e. over (ap (λ (r : Report). r.outcome) (same n) ∙ e)));
-    never_stuck = λ n at. (let free = agree.never_stuck n at
-        in (free.0, subst (λ (r : Report). r.outcome ≢ Stuck at) (sym (same n)) free.1));
-  }
 
 -- ---- the code of a package
 
@@ -127,6 +106,10 @@ module _ (list : ListTree) (codes : List MethodCode) (t : Tables) (p : Package) 
             (λ none. (let (k, m, there, found) = stands_there o.number o.place o.class o.method tree o.is_class
             o.is_method e (sym (first_name x o) ∙ plain) in absurd (none.1 k m there (found ∙ ap Some (sym is)))))
             r
+
+    pub selected_by_mode : (f : Found) (x : Method) → method_at p.files f ≡ Some x
+        → (let id = x.id in is_initialiser id.name) ≡ false → laid_code p x ≡ code x
+    selected_by_mode f x e plain = plain_code x plain (of_file p.files f x e)
 
     -- an initialiser does not stand there
     none_first : (x : Method) → (let id = x.id in is_initialiser id.name) ≡ true → (o : IsOfFile p.files x)

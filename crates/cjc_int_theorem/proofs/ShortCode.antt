@@ -1,8 +1,7 @@
 -- What is selected for a method outside int mode, in a package by modes, can be written.
-use Rattle.std.proofs.Common.{◌≡◌, ℕ, zero, suc, ◌<◌, ◌≤◌, arith, refl, sym, ap, subst, ◌∙◌, Bool, true, false, List}
-use Rattle.std.proofs.Common.{[], ◌∷◌, length}
-use Rattle.std.specs.Prelude.{Option, Some, None, slice_get}
-use Rattle.cjc_bytes.specs.declared.fault.MemberId.{MemberId}
+use Rattle.std.proofs.Common.{◌≡◌, ℕ, zero, suc, ◌≤◌, arith, refl, sym, ap, subst, ◌∙◌, Bool, true, false, List}
+use Rattle.std.proofs.Common.{[], ◌∷◌}
+use Rattle.std.specs.Prelude.{Option, Some, slice_get}
 use Rattle.cjc_classes.specs.Emit.Emitted.{CanBeWritten, placed_at}
 use Rattle.cjc_classes.specs.Layout.Forms.{HasForm}
 use Rattle.cjc_classes.specs.Layout.Layouts.{IsWhole}

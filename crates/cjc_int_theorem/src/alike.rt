@@ -33,13 +33,14 @@ ghost use Rattle.cjc_int_narrow.specs.LowerIntMode.declared.modes.Mode.TheVarian
 ghost use Rattle.cjc_int_theorem.specs.Alike.{AreRunBy, BehavesByModes, IsJudgedByModes, IsPassedByModes};
 ghost use Rattle.cjc_int_theorem.specs.ByModes.{IsConvertedByModes};
 ghost use Rattle.cjc_int_theorem.specs.Tabled.{AreTabledByModes};
+ghost use Rattle.cjc_theorem.specs.Alike.Halves.{run_by_label};
 
 use crate::joined::components_by_modes_run_by_token;
 use cjc_int_alike::packages::packages_by_modes_run_alike;
 
 /// What Method has of each method of a class file is its narrow code by its least tables and its mode, none of an
-/// initialiser. So the class files, run by name, and the components, run by token, agree for every script: of the notes
-/// of any two runs one begins with the other; where the run by name of n instructions is over, the run by token of at
+/// initialiser. So the class files, run by name, and that code, run by label, and the components, run by token, agree for
+/// every script: of the notes of any two runs one begins with the other; where the run by name of n instructions is over, the run by token of at
 /// least 4,096 n ends alike; where the run by token of n is over, the run by name of at least 65,536 (n + 1) ends
 /// alike; and neither is ever stuck.
 pub fn components_by_modes_behave_as_class_files()
@@ -47,6 +48,9 @@ pub fn components_by_modes_behave_as_class_files()
         → IsConvertedByModes list codes t p → (tables : RunTables) (in_int_mode : Method → Bool)
         → AreRunBy p.files t tables in_int_mode → (f : Found) (x : Method) → method_at p.files f ≡ Some x
         → codes_by_mode p.files p.image (near_fields (pool p)) tables in_int_mode x ≡ laid_code p x }
+    ensures labels { (list : ListTree) (codes : List MethodCode) (t : Tables) (p : Package)
+        → BehavesByModes list codes t p → (script : Script)
+        → Agree 4096 (λ n. run_by_name p.files p.image script n) (λ n. run_by_label p script n) }
     ensures runs { (list : ListTree) (codes : List MethodCode) (t : Tables) (p : Package)
         → BehavesByModes list codes t p → (script : Script)
         → Agree 4096 (λ n. run_by_name p.files p.image script n) (λ n. run_by_token (loaded p) script n) }

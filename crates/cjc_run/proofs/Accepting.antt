@@ -8,13 +8,14 @@ use Rattle.cjc_accepted_files.specs.Folder.{input_of, parts_of}
 use Rattle.cjc_cmd_compat.proofs.ListDecided.{listed_spelt}
 use Rattle.cjc_cmd_compat.specs.List.Listed.{ListTree, listed}
 use Rattle.cjc_cmd_make.specs.CmdConvert.Conversion.Conversion.{Conversion, ExportsAreFair, IsConverted}
+use Rattle.cjc_cmd_make.specs.CmdConvert.Conversion.Conversion.{NoneInIntMode}
 use Rattle.cjc_cmd_make.specs.CmdConvert.Publication.{below, files_made}
 use Rattle.cjc_cmd_verify.proofs.CmdJvmGathers.{is_read}
 use Rattle.cjc_cmd_verify.specs.CmdCard.Report.Runs as by_token
 use Rattle.cjc_cmd_verify.specs.CmdCard.Running.Package.{plan_behind_files, plan_behind_list, plan_behind_text}
 use Rattle.cjc_cmd_verify.specs.CmdCard.Running.Package.{plan_of_input}
 use Rattle.cjc_cmd_verify.specs.CmdCard.declared.running.input.Input.{Input}
-use Rattle.cjc_cmd_verify.specs.Judge.Rules.{on_first, on_second}
+use Rattle.cjc_cmd_verify.specs.Judge.Rules.{files_spelt, on_first, on_second}
 use Rattle.cjc_cmd_verify.specs.Judge.Spelt.{FileTree, IsRead, SpellTrees, exports_of}
 use Rattle.cjc_cmd_verify.specs.Verify.{AnyBreaks, BreaksTyping, Verifies, plan_of_verify}
 use Rattle.cjc_run.proofs.Got.{same_complete}
@@ -101,12 +102,12 @@ module _ (files : Files) (dir : List ℕ) (x : ListTree × List (List ℕ)) wher
 
 -- ---- what is answered
 
--- of a conversion whose export files are fair
+-- of a conversion whose export files are fair, and none of whose methods is in int mode
 abbrev OfConversions : (ListTree → List (List ℕ) → Conversion → Type 0) → Type 0
 OfConversions Holds =
     (list : ListTree) (inputs : List (List ℕ)) (made : Conversion) → IsRead list → IsConverted list inputs made
     → (trees : List FileTree) → SpellTrees list.lines inputs trees → ExportsAreFair (exports_of trees)
-    → Holds list inputs made
+    → NoneInIntMode list (files_spelt list trees) → Holds list inputs made
 
 -- its components are read where they stand
 abbrev AreReadBack : ListTree → List (List ℕ) → Conversion → Type 0
@@ -143,7 +144,7 @@ module _ (back : OfConversions AreReadBack) (fine : OfConversions BreakNothing) 
         parts = parts;
         script = [];
       })) (let made = is.made in parts_of made.caps) (back is.list is.inputs is.made list_is_read is.converted is.trees
-      is.spell is.fair files dir (let list = is.list in list.package) (let made = is.made in made.export) is.stand)
+      is.spell is.fair is.short files dir (let list = is.list in list.package) (let made = is.made in made.export) is.stand)
 
   all_read : verdict files (plan_of_verify name dir) ≡ complete input
   all_read =
@@ -152,9 +153,10 @@ module _ (back : OfConversions AreReadBack) (fine : OfConversions BreakNothing) 
       ((text_read files dir (is.list, is.inputs) name is.read).1 ∙ parts_read)
 
   no_break : (b : Break) → AnyBreaks input b → ⊥
-  no_break b (on_first x) = fine is.list is.inputs is.made list_is_read is.converted is.trees is.spell is.fair b x
+  no_break b (on_first x) = fine is.list is.inputs is.made list_is_read is.converted is.trees is.spell is.fair
+      is.short b x
   no_break b (on_second before p) = accepted is.list is.inputs is.made list_is_read is.converted is.trees is.spell
-      is.fair b p
+      is.fair is.short b p
 
   never_refused : (r : Refusal) → Verifies input (Err r) → ⊥
   never_refused r f = no_break f.broken f.first.breaks

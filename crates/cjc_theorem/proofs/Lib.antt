@@ -22,7 +22,6 @@ pub use Rattle.cjc_shape_proof.proofs.ShapeLimited as ShapeLimited
 pub use Rattle.cjc_shape_proof.proofs.ShapeSound as ShapeSound
 pub use Rattle.cjc_shape_proof.proofs.FindsLaws.Descs as ShapeProofDescs
 pub use Rattle.cjc_shape_proof.proofs.WrittenLaws.Files as ShapeProofFiles
-pub use Rattle.cjc_shape_proof.proofs.WrittenLaws.Insns as ShapeProofInsns
 pub use Rattle.cjc_shape_proof.proofs.WrittenLaws.OfFiles as ShapeProofOfFiles
 pub use Rattle.cjc_shape_proof.proofs.WrittenLaws.FittingLaws.Initialisers as ShapeProofInitialisers
 pub use Rattle.cjc_shape_proof.proofs.WrittenLaws.FittingLaws.Interfaces as ShapeProofInterfaces

@@ -8,4 +8,5 @@ pub mod Listed
 pub mod Tabled
 pub mod Placed
 pub mod Laid
+pub mod Drafts
 pub mod Alike

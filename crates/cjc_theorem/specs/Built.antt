@@ -4,26 +4,27 @@
 use Rattle.std.specs.Prelude.{◌≡◌, ℕ, List, [], ◌∷◌, Some, slice_get}
 use Rattle.cjc_world.specs.ClassFile.declared.tree.ClassTree.{ClassTree}
 use Rattle.cjc_components.specs.ExportFile.{export_of}
-use Rattle.cjc_components.specs.Limits.{limit_breaks}
 use Rattle.cjc_token_proof.specs.List.Listed.{ListTree}
 use Rattle.cjc_components.specs.Package.{Package}
 use Rattle.cjc_world.specs.ExportFile.declared.tree.ExportClass.{ExportClass}
 use Rattle.cjc_world.specs.ExportFile.declared.tree.ExportTree.{ExportTree}
+use Rattle.cjc_shape_proof.specs.LowerIntPackage.Limits.{limit_breaks_by_modes}
 use Rattle.cjc_shape_proof.specs.LowerJudge.Spelt.{IsRead}
 use Rattle.cjc_shape_proof.specs.LowerJudge.declared.judged.Judged.{Judged}
 use Rattle.cjc_shape_proof.specs.LowerShape.Prepared.{IsSound}
-use Rattle.cjc_shape_proof.specs.LowerShape.Whole.Conversion.{IsPackageOf}
+use Rattle.cjc_shape_proof.specs.LowerShape.Whole.Conversion.{IsPackageByModesOf}
 use Rattle.cjc_token_proof.specs.Subset.Members.{imports}
 use Rattle.cjc_theorem.specs.FairExports.Fair.{ExportsAreFair, world_of}
 use Rattle.cjc_world.specs.Supertypes.{IsAcyclic, Lists}
 use Rattle.cjc_world.specs.Upwards.{Has}
 
--- A conversion writes the package: its list was read, its files break no rule, nor does what is written for it.
+-- A conversion writes the package: its list was read, its files break no rule, nor does what is written for it,
+-- whichever of its methods are in int mode.
 pub record IsWritten (list : ListTree) (files : List (List ℕ)) (judged : Judged) (p : Package) : Type 0 where
   pub read : IsRead list
   pub sound : IsSound list files judged
-  pub is_package : IsPackageOf list files p
-  pub unbroken : limit_breaks p ≡ []
+  pub is_package : IsPackageByModesOf list files p
+  pub unbroken : limit_breaks_by_modes is_package.tables p ≡ []
 
 -- No two classes of these files have one name, and none stands above itself. Of the files of a list 202 and 204 say so.
 pub record AreDistinct (exports : List ExportTree) : Type 0 where

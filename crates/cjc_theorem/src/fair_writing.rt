@@ -11,7 +11,7 @@ ghost use Rattle.cjc_shape_proof.specs.LowerJudge.declared.judged.Judged.{Judged
 ghost use Rattle.cjc_token_proof.specs.List.Listed.{ListTree};
 ghost use Rattle.cjc_world.specs.Upwards.{Has};
 
-use cjc_shape_proof::written::converted_classes_keep_rules;
+use cjc_vtable::package_laws;
 
 /// Of export files of platforms that are fair, and of those that packages write which were converted over such files,
 /// any list is fair: in any order, shorter ones, and with packages that were converted side by side. So is the file
@@ -24,5 +24,5 @@ pub fn written_export_files_are_fair()
         → (let f = p.files in f.exports ≡ before ++ following) → (let f = p.files in ExportsAreFair f.exports)
         → ExportsAreFair (before ++ export_of p ∷ following) }
 {
-    converted_classes_keep_rules();
+    package_laws();
 }

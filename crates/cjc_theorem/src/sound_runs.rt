@@ -1,7 +1,7 @@
 //! A package whose files break no rule that is tested before it is written, over sound export files, has narrow
 //! code that runs as its class files. Laws alone, for whoever promises that what was converted behaves as its
 //! class files. Nothing here runs.
-ghost use Rattle.std.specs.Prelude.{◌≡◌, ℕ, false, List, Option, Some, slice_get};
+ghost use Rattle.std.specs.Prelude.{◌≡◌, ℕ, List, Option, Some, slice_get};
 ghost use Rattle.cjc_token_proof.specs.CardSemantics.Bytecode.Runs.{Agree};
 ghost use Rattle.cjc_jvm_semantics.specs.ByName.{run as run_by_name};
 ghost use Rattle.cjc_world.specs.ClassFile.Code.{CodeTree};
@@ -23,7 +23,6 @@ ghost use Rattle.cjc_shape_proof.specs.LowerShape.Prepared.{IsSound};
 ghost use Rattle.cjc_shape_proof.specs.Intervals.Frames.{RangeState};
 ghost use Rattle.cjc_shape_proof.specs.Intervals.Tables.{IsLeastRanges, Passes};
 ghost use Rattle.cjc_token_proof.specs.Script.declared.script.Script.{Script};
-ghost use Rattle.cjc_token_proof.specs.Subset.Ints.{any_works_on_int};
 ghost use Rattle.cjc_shape_proof.specs.WorldProof.Files.{ExportsAreSound};
 ghost use Rattle.cjc_token_proof.specs.Types.Flow.{body_of};
 ghost use Rattle.cjc_token_proof.specs.Types.Tables.{IsMethodOf, IsTypeTable, rows_of};
@@ -50,26 +49,23 @@ pub fn numbers_of_sound_packages_fit()
 {}
 
 /// Of a list that was read and files that break no rule, over sound export files, each method has its least tables,
-/// where none with code works on int, and none is in int mode. So the run of the package's class files by name and the
-/// run of its narrow code agree, for every script: of the notes of any two runs one begins with the other; where the
-/// run by name of n instructions is not Running, the narrow run of at least 2n ends alike; where the narrow run of n is
-/// not Running, the run by name of at least 65,536 (n + 1) ends alike, each with the same outcome, heap and static
-/// cells; and neither is ever stuck. It is so of the package before its methods are laid out, whatever static image its
-/// initialisers make, and of the package that is written.
+/// where none that is written is in int mode. So the run of the package's class files by name and the run of its narrow
+/// code agree, for every script: of the notes of any two runs one begins with the other; where the run by name of n
+/// instructions is not Running, the narrow run of at least 2n ends alike; where the narrow run of n is not Running, the
+/// run by name of at least 65,536 (n + 1) ends alike, each with the same outcome, heap and static cells; and neither is
+/// ever stuck. It is so of the package before its methods are laid out, whatever static image its initialisers make,
+/// and of the package that is written.
 pub fn sound_packages_run_alike()
     ensures tabled { (list : ListTree) (files : List (List ℕ)) (judged : Judged) → IsRead list
-        → IsSound list files judged → any_works_on_int judged.world judged.codes ≡ false
-        → AreShort list.ints judged.world → ExportsAreSound judged.world
+        → IsSound list files judged → AreShort list.ints judged.world → ExportsAreSound judged.world
         → (tables : Tables) × IsWhole list.name judged.world judged.codes (settings_of list) tables }
     ensures drafts { (list : ListTree) (files : List (List ℕ)) (judged : Judged) → IsRead list
-        → IsSound list files judged → any_works_on_int judged.world judged.codes ≡ false
-        → AreShort list.ints judged.world → ExportsAreSound judged.world
+        → IsSound list files judged → AreShort list.ints judged.world → ExportsAreSound judged.world
         → (p : Package) → IsDraft list files p → (let w = p.files in IsImage p.files (all_codes w.classes) p.image)
         → (script : Script)
         → Agree 2 (λ n. run_by_name p.files p.image script n) (λ n. narrow_run p.files p.image (laid_code p) script n) }
     ensures packages { (list : ListTree) (files : List (List ℕ)) (judged : Judged) → IsRead list
-        → IsSound list files judged → any_works_on_int judged.world judged.codes ≡ false
-        → ExportsAreSound judged.world
+        → IsSound list files judged → ExportsAreSound judged.world
         → (p : Package) → IsPackageOf list files p → (script : Script)
         → Agree 2 (λ n. run_by_name p.files p.image script n) (λ n. narrow_run p.files p.image (laid_code p) script n) }
 {

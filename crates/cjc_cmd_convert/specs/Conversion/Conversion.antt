@@ -16,9 +16,9 @@ use Rattle.cjc_convert.specs.World.Files.{Files}
 abbrev pub Conversion : Type 0
 Conversion = Converted
 
--- These are what is written for the package of a list with these files.
+-- These are what is written for the package of a list with these files, each method by its mode.
 abbrev pub IsConverted : ListTree → List (List ℕ) → Conversion → Type 0
-IsConverted list files made = assembled.IsConverted list files made
+IsConverted list files made = assembled.IsConvertedByModes list files made
 
 -- The package of a list with these files breaks a rule, and this is the first.
 abbrev pub IsRefused : ListTree → List (List ℕ) → Refusal → Type 0
@@ -31,3 +31,7 @@ ExportsAreFair exports = fair.ExportsAreFair exports
 -- The class files of a list over its export files, run by name, and these components, run by token, behave alike.
 abbrev pub BehaveAlike : ListTree → Files → CapTree → Type 0
 BehaveAlike list files cap = alike.BehaveAlike list files cap
+
+-- No method of these files is in int mode.
+abbrev pub NoneInIntMode : ListTree → Files → Type 0
+NoneInIntMode list files = alike.NoneInIntMode list files

@@ -11,10 +11,8 @@ use Rattle.cjc_convert.specs.List.Listed.{ListTree}
 use Rattle.cjc_convert.specs.CheckRules.Consistent.{Consistent}
 
 -- The files of a list spell these classes and export files, and the component files that are made spell these
--- components. Over
--- export files that are fair the components are consistent with them, and class files and components behave alike for
--- every
--- script.
+-- components. Over export files that are fair the components are consistent with them, and class files and components
+-- behave alike for every script.
 pub record KeepsPromise (list : ListTree) (files : List (List ℕ)) (made : Converted) : Type 0 where
   pub trees : List FileTree
   pub spell : SpellTrees list.lines files trees

@@ -2,7 +2,6 @@ pub mod PoolKeys
 pub mod KeySources
 pub mod Descs
 pub mod Clean
-pub mod LaidOut
 pub mod Cells
 pub mod Own
 pub mod Abroad

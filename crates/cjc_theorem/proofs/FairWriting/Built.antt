@@ -7,11 +7,12 @@ use Rattle.cjc_components.specs.Package.{Package, world}
 use Rattle.cjc_world.specs.ExportFile.declared.tree.ExportTree.{ExportTree}
 use Rattle.cjc_shape_proof.specs.LowerJudge.Rules.{settings_of}
 use Rattle.cjc_shape_proof.specs.LowerJudge.declared.judged.Judged.{Judged}
-use Rattle.cjc_shape_proof.proofs.WrittenLaws.Files.{files_sound, own_unbroken}
-use Rattle.cjc_shape_proof.proofs.WrittenLaws.Worlds.{own_ordered}
-use Rattle.cjc_shape_proof.specs.Written.Converted.{IsConverted}
+use Rattle.cjc_components.specs.Bytecode.declared.method_code.MethodCode.{MethodCode}
+use Rattle.cjc_shape_proof.proofs.WrittenLaws.Checked.{files_sound, own_ordered}
+use Rattle.cjc_shape_proof.proofs.WrittenLaws.Files.{judged_checked}
+use Rattle.cjc_shape_proof.specs.Written.Checked.{IsChecked}
 use Rattle.cjc_token_proof.specs.Subset.Members.{imports}
-use Rattle.cjc_theorem.proofs.AlikeLaws.Converted.{is_converted, own_checks, own_package}
+use Rattle.cjc_theorem.proofs.AlikeLaws.Converted.{own_checks, own_package, same_by_modes}
 use Rattle.cjc_theorem.proofs.FairExports.Listed.{exports_plain, names}
 use Rattle.cjc_theorem.proofs.FairExports.Roots.{exports_sound, in_imports}
 use Rattle.cjc_theorem.proofs.FairExports.Sent.{exports_agree}
@@ -32,38 +33,38 @@ some_fair some all sub distinct fair = fewer_fair some all
     (λ e h. (let t = of-imports e some h in in_imports e t.0 all (there t.0 all (sub t.0 (among t.0 some t.1))) t.2))
     distinct fair
 
-module _ (keeps : (list : ListTree) (files : List (List ℕ)) (judged : Judged) (p : Package)
-    → IsConverted list files judged p → KeepsRules (world p)) where
+module _ (keeps : (list : ListTree) (codes : List MethodCode) (p : Package) → IsChecked list codes p
+    → KeepsRules (world p)) where
   module _ (list : ListTree) (files : List (List ℕ)) (judged : Judged) (p : Package)
       (is : IsWritten list files judged p) (fair_list : (let world = p.files in ExportsAreFair world.exports)) where
     abbrev exports : List ExportTree
     exports = let world = p.files in world.exports
 
-    converted : IsConverted list files judged p
-    converted =
-        let sound = own_package list files judged is.read is.sound p is.is_package in
-        let checks = own_checks list files judged is.read is.sound p is.is_package in
-        is_converted list files judged is.read is.sound p is.is_package is.unbroken
+    checked : IsChecked list judged.codes p
+    checked =
+        let same = same_by_modes list files judged is.read is.sound p is.is_package in
+        let sound = own_package list files judged is.read is.sound p same in
+        let checks = own_checks list files judged is.read is.sound p same in
+        judged_checked list files judged p is.read is.sound same
         (exports_sound list.name p.files sound (names list.name p.files judged.codes (settings_of list) checks))
         (exports_plain list.name p.files judged.codes (settings_of list) checks)
         (exports_agree list.name p.files sound fair_list)
 
     rules : KeepsRules (world p)
-    rules = keeps list files judged p converted
+    rules = keeps list judged.codes p checked
 
     over_all : (all : List ExportTree) → StandsOver p all → AreDistinct (export_of p ∷ all) → ExportsAreFair all
         → ExportsAreFair (export_of p ∷ all)
     over_all all over distinct fair =
-        let u = own_unbroken list files judged p converted in
-        let e = converted.exports in
-        still_fair list.name p judged.codes (settings_of list) (files_sound list files judged p converted) u.checks
-        (own_ordered list files judged p converted) rules e.root all over distinct fair
+        let e = checked.exports in
+        still_fair list.name p judged.codes (settings_of list) (files_sound list judged.codes p checked) checked.checks
+        (own_ordered list judged.codes p checked) rules e.root all over distinct fair
 
     -- beside those of its own list, wherever it stands
     pub over_own : (before following : List ExportTree) → exports ≡ before ++ following
         → ExportsAreFair (before ++ export_of p ∷ following)
     over_own before following split =
-        let sound = files_sound list files judged p converted in
+        let sound = files_sound list judged.codes p checked in
         let distinct = own_distinct list.name p sound in
         fewer_fair (before ++ export_of p ∷ following) (export_of p ∷ exports)
         (λ e h. ⊎_elim

@@ -108,7 +108,7 @@ module _ (list : List ℕ) (p : Package) (codes : List MethodCode) (settings : S
 
   -- ---- what is found
 
-  place_meant : (d : Class) → class_named w d.name ≡ Some d → (i : ℕ) (m : Member)
+  pub place_meant : (d : Class) → class_named w d.name ≡ Some d → (i : ℕ) (m : Member)
       → slice_get (methods_with_added w d) i ≡ Some m → method_meant w (member_at d (length d.fields + i)) ≡ Some m
   place_meant d named i m at =
       let sub : length d.fields + i - length d.fields ≡ i = omega arith in
@@ -212,7 +212,7 @@ module _ (list : List ℕ) (p : Package) (codes : List MethodCode) (settings : S
     abbrev c : Class
     c = declared n t
 
-    named : class_named w t.name ≡ Some c
+    pub named : class_named w t.name ≡ Some c
     named = own_name list p.files sound c (own_in p.files sound.classes sound.exports n t there)
 
     abbrev tok : ℕ → ℕ
@@ -250,10 +250,10 @@ module _ (list : List ℕ) (p : Package) (codes : List MethodCode) (settings : S
           → token (slots (line_of w t.name)) (signature_of (method_of_export e)) ≡ Some e.token
 
     module _ (plain : is_interface t.flags ≡ false) (rules : KeepsRules w) where
-      same_line : line_of w t.name ≡ line_at w c
+      pub same_line : line_of w t.name ≡ line_at w c
       same_line = ap (line_in w) (supertypes-known w ordered.acyclic t.name c named)
 
-      told : IsTold (line_of w t.name)
+      pub told : IsTold (line_of w t.name)
       told = told-class w are_supertypes (AreSupertypes-one w) rules t.name c named (λ im. absurd (cc))
 
       at_slot : (s : Signature) (j : ℕ) → Offers p.files (has_applets p) n t there plain s

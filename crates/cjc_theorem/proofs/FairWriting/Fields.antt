@@ -1,5 +1,5 @@
 -- The export file that a package writes is fair with files beside it that are fair: field by field.
-use Rattle.std.proofs.Common.{◌≡◌, ℕ, ◌+◌, ◌-◌, refl, sym, ap, subst, ◌∙◌, Bool, true, false}
+use Rattle.std.proofs.Common.{◌≡◌, ℕ, refl, sym, ap, subst, ◌∙◌, Bool, true, false}
 use Rattle.std.proofs.Common.{List, [], ◌∷◌, ◌++◌, map, inl, inr, ⊎_elim, Some}
 use Rattle.std.specs.Prelude.{◌⊎◌, not, ◌&&◌, slice_get}
 use Rattle.std.proofs.lemmas.Bool.{and_from}

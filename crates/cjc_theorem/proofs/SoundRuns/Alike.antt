@@ -19,7 +19,7 @@ use Rattle.cjc_token_proof.specs.Clinit.Image.{IsImage}
 use Rattle.cjc_token_proof.specs.Clinit.Rules.{BreaksImage}
 use Rattle.cjc_components.specs.Bytecode.PackageCodes.{all_codes}
 use Rattle.cjc_components.specs.Package.{LaidMethod, Package, pool}
-use Rattle.cjc_components.specs.Written.{code_by}
+use Rattle.cjc_components.specs.Written.{code_at, code_by}
 use Rattle.cjc_vtable.specs.Fixpoint.Tables.{HasRow}
 use Rattle.cjc_shape_proof.specs.LowerJudge.Rules.{settings_of}
 use Rattle.cjc_shape_proof.specs.LowerJudge.Spelt.{IsRead}
@@ -43,7 +43,6 @@ use Rattle.cjc_ncode.specs.declared.narrow.NMethod.{NMethod}
 use Rattle.cjc_shape_proof.proofs.ShapeSelected.{judged_checks}
 use Rattle.cjc_shape_proof.proofs.ShapeSound.{are_ready, is_tested, listed, no_image_break, world_unbroken}
 use Rattle.cjc_token_proof.specs.Subset.Checks.{check_breaks}
-use Rattle.cjc_token_proof.specs.Subset.Ints.{any_works_on_int}
 use Rattle.cjc_token_proof.specs.Tables.Sound.{IsSound as IsSoundPackage}
 use Rattle.cjc_shape_proof.specs.LowerShape.Prepared.{IsSound}
 use Rattle.cjc_shape_proof.specs.Intervals.Frames.{RangeState}
@@ -61,7 +60,8 @@ use Rattle.cjc_theorem.proofs.SoundRuns.Tabled.{has_least, no_first, only_coded,
 use Rattle.cjc_token_proof.specs.Types.declared.state.State.{State}
 use Rattle.cjc_token_proof.specs.Types.Flow.{Body}
 use Rattle.cjc_shape_proof.proofs.ShapeDrafts.{rows, rows_agree, rows_are, same_members, same_spelt}
-use Rattle.cjc_shape_proof.specs.LowerShape.Whole.Conversion.{AreShort, IsDraft, IsSelected}
+use Rattle.cjc_shape_proof.specs.LowerShape.Whole.Conversion.{AreShort}
+use Rattle.cjc_theorem.proofs.SoundRuns.Drafts.{IsByRows}
 use Rattle.cjc_world.specs.Classes.{all_classes}
 use Rattle.cjc_world.specs.Files.{Files}
 use Rattle.cjc_world.specs.Order.{method_order}
@@ -118,9 +118,9 @@ module _ (list : ListTree) (files : List (List ℕ)) (judged : Judged) (is : IsS
   }
 
   module _ (of : IsRead list) (sound : ExportsAreSound judged.world) where
-    pub whole : any_works_on_int judged.world judged.codes ≡ false → AreShort list.ints judged.world
+    pub whole : AreShort list.ints judged.world
         → IsWhole list.name judged.world judged.codes (settings_of list) own_tables
-    whole free short = whole_is list files judged is of sound own_tables (are_tabled short) free
+    whole short = whole_is list files judged is of sound own_tables (are_tabled short) short
 
     kept_files : IsSoundPackage list.name judged.world
     kept_files = sound_package list files judged is of sound.names
@@ -130,20 +130,20 @@ module _ (list : ListTree) (files : List (List ℕ)) (judged : Judged) (is : IsS
 
     -- ---- what stands for its methods in Method is the narrow code by its tables
 
-    module _ (p : Package) (draft : IsDraft list files p) where
+    module _ (p : Package) (draft : IsByRows list files p) where
       abbrev near : List MemberId
       near = near_fields (pool p)
 
       same : p.files ≡ judged.world
       same = same_spelt list files judged is p.files draft.rows draft.spelt
 
-      selected : (k : ℕ) (m : LaidMethod) → slice_get p.methods k ≡ Some m → IsSelected judged.world near draft.rows m
-      selected k m e = subst (λ w. IsSelected w near draft.rows m) same (draft.methods k m e)
+      selected : (k : ℕ) (m : LaidMethod) → slice_get p.methods k ≡ Some m
+          → m.code ≡ code_at judged.world near draft.rows m.member
+      selected k m e = subst (λ w. m.code ≡ code_at w near draft.rows m.member) same (draft.codes k m e)
 
       each : (k : ℕ) (m : LaidMethod) → slice_get p.methods k ≡ Some m → (y : Method)
           → method_at judged.world m.member ≡ Some y → m.code ≡ code_of judged.world near draft.rows y
-      each k m e y found = (let one = selected k m e in one.code) ∙ ap (code_by judged.world near draft.rows m.member)
-          found
+      each k m e y found = selected k m e ∙ ap (code_by judged.world near draft.rows m.member) found
 
       by_rows : (x : Method) (rows : List (Option State)) → own_tables.types x ≡ rows
           → narrow_codes judged.world near own_tables x ≡ code_of judged.world near (λ y. rows) x
@@ -179,7 +179,7 @@ module _ (list : ListTree) (files : List (List ℕ)) (judged : Judged) (is : IsS
           let (k, f, there, found) = stands list.name judged.world judged.codes (settings_of list) kept_files checks n i
           class method tree e f g plain in
           let one = mapped_at (λ (m : LaidMethod). m.member) p.methods k f (ap (λ fs. slice_get fs k)
-          (same_members list files judged is p draft) ∙ there) in
+          (same_members list files judged is p same draft.members) ∙ there) in
           (k, one.0, one.1, ap (method_at judged.world) (sym one.2) ∙ found)
 
       plain_name : (x : Method) → is_initialiser (let id = x.id in id.name) ≡ false → (o : IsOfFile judged.world x)
@@ -245,7 +245,7 @@ module _ (list : ListTree) (files : List (List ℕ)) (judged : Judged) (is : IsS
               → method_at judged.world m.member ≡ Some y → y.id ≡ x.id → ⊥
           none k m y e f same_id =
               let there : slice_get (method_order (all_classes judged.world)) k ≡ Some m.member =
-              ap (λ fs. slice_get fs k) (sym (same_members list files judged is p draft))
+              ap (λ fs. slice_get fs k) (sym (same_members list files judged is p same draft.members))
               ∙ slice_get-map (λ (q : LaidMethod). q.member) p.methods k
               ∙ ap (option_map (λ (q : LaidMethod). q.member)) e in
               let plain = plain_in_order list.name judged.world judged.codes (settings_of list) kept_files checks k

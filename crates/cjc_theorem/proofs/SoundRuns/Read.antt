@@ -1,5 +1,5 @@
 -- A package that was judged and breaks no rule is one of read files.
-use Rattle.std.proofs.Common.{◌≡◌, ℕ, zero, suc, ◌<◌, refl, sym, ap, subst, ◌∙◌, List, [], ◌∷◌, false}
+use Rattle.std.proofs.Common.{◌≡◌, ℕ, zero, suc, ◌<◌, refl, sym, ap, subst, ◌∙◌, List, [], ◌∷◌}
 use Rattle.std.specs.Prelude.{Some, slice_get}
 use Rattle.std.specs.List.{AllByRecursion}
 use Rattle.cjc_bytes.specs.Descriptor.{IsClassName}
@@ -17,8 +17,9 @@ use Rattle.cjc_shape_proof.specs.Whole.{AreTabled, IsWhole}
 use Rattle.cjc_narrow_proof.specs.Runs.Tables.{Tables}
 use Rattle.cjc_shape_proof.specs.LowerShape.Prepared.{IsSound}
 use Rattle.cjc_shape_proof.proofs.ShapeSelected.{judged_writable}
+use Rattle.cjc_shape_proof.proofs.ShapeInts.{short_free}
 use Rattle.cjc_shape_proof.proofs.ShapeSound.{is_tested, is_unbroken}
-use Rattle.cjc_token_proof.specs.Subset.Ints.{any_works_on_int}
+use Rattle.cjc_shape_proof.specs.LowerShape.Whole.Conversion.{AreShort}
 use Rattle.cjc_shape_proof.specs.WorldProof.Files.{AreReadFiles, ExportsAreSound}
 use Rattle.cjc_theorem.proofs.SoundRuns.Names.{class_name}
 use Rattle.cjc_world.specs.Files.{Files}
@@ -56,10 +57,10 @@ module _ (list : ListTree) (files : List (List ℕ)) (judged : Judged) (is : IsS
       subst IsClassName (sym (ap (λ (w : Files). w.package_name) is.judged_by.world)) (class_name list.«package» says.3)
 
   pub whole_is : IsRead list → ExportsAreSound judged.world → (tables : Tables)
-      → AreTabled judged.world judged.codes tables → any_works_on_int judged.world judged.codes ≡ false
+      → AreTabled judged.world judged.codes tables → AreShort list.ints judged.world
       → IsWhole list.name judged.world judged.codes (settings_of list) tables
-  whole_is of sound tables tabled free = record {
-    unbroken = is_unbroken list files judged is free;
+  whole_is of sound tables tabled short = record {
+    unbroken = is_unbroken list files judged is (short_free list files judged is short);
     package_name = package_is of;
     read = read_files;
     sound = sound;

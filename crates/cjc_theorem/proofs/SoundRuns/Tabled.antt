@@ -197,6 +197,7 @@ module _ (files : Files) (codes : List MethodCode) (types : List TypeTable) (rea
             method = method;
             tree = tree;
             of_package = t.of_package;
+            written = plain;
             listed = (
               t.place,
               slice_get_within codes t.place code t.is_code,

@@ -20,9 +20,6 @@ use Rattle.cjc_bytes.proofs.Quantified.{all_both}
 use Rattle.cjc_jvm_semantics.specs.OnePackage as by_name
 use Rattle.cjc_world.specs.ClassFile.declared.tree.ClassTree.{ClassTree}
 use Rattle.cjc_token_proof.specs.Clinit.declared.stage.Held.{Held}
-use Rattle.cjc_token_proof.specs.Clinit.declared.stage.Held.TheVariants as held
-use Rattle.cjc_token_proof.specs.Clinit.declared.stage.Start.{Start}
-use Rattle.cjc_token_proof.specs.Clinit.declared.stage.Start.TheVariants as starts
 use Rattle.cjc_token_proof.specs.Clinit.Fields.{ANull, ANumber, AnArray, Contents, array_desc, fits, fits_kind}
 use Rattle.cjc_token_proof.specs.Clinit.Fields.{number_kind, takes}
 use Rattle.cjc_token_proof.specs.Clinit.Image.{AreInitialised, array_in, arrays_of}
@@ -33,7 +30,7 @@ use Rattle.cjc_token_proof.specs.Clinit.Initialiser.{of_array, of_null, of_numbe
 use Rattle.cjc_token_proof.specs.Clinit.Initialiser as init
 use Rattle.cjc_components.specs.Bytecode.declared.insn.JOp.{JOp}
 use Rattle.cjc_components.specs.Bytecode.declared.method_code.MethodCode.{MethodCode}
-use Rattle.cjc_token_proof.specs.Narrow.Rows.Package.{element_of_kind, named}
+use Rattle.cjc_token_proof.specs.Narrow.Rows.Package.{element_of_kind}
 use Rattle.cjc_ncode.specs.ByLabel.{Named}
 use Rattle.cjc_components.specs.Range.Span.{Holds}
 use Rattle.cjc_token_proof.specs.Script.declared.value.Value.TheVariants.{Num}

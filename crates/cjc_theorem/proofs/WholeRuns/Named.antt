@@ -18,9 +18,9 @@ use Rattle.cjc_shape_proof.proofs.FindsLaws.Descs.{read_of}
 use Rattle.cjc_shape_proof.proofs.FindsLaws.Whole.{converted_is, fields_are, interface_is, is_solid, special_is}
 use Rattle.cjc_shape_proof.proofs.FindsLaws.Whole.{static_is, virtual_is}
 use Rattle.cjc_narrow_proof.specs.Laws.Left.{HasLeast}
-use Rattle.cjc_narrow_proof.specs.Laws.Unbroken.{AreSpelt, IsInsnOf, IsUnbroken}
+use Rattle.cjc_narrow_proof.specs.Laws.Unbroken.{AreSpelt, IsInsnOf, IsUnbroken, KeepsNames}
 use Rattle.cjc_narrow_proof.proofs.LawsLaws.Casts.{cast_there, test_there}
-use Rattle.cjc_narrow_proof.proofs.LawsLaws.Instructions.{array_of_class, new_fields, op_fit, op_there}
+use Rattle.cjc_narrow_proof.proofs.LawsLaws.Instructions.{array_of_class, kept_names, new_fields, op_fit, op_there}
 use Rattle.cjc_narrow_proof.specs.Runs.Calls.{IsReceiverOn}
 use Rattle.cjc_narrow_proof.specs.Runs.Converted.{IsConverted, IsFirst}
 use Rattle.cjc_narrow_proof.specs.Runs.Names.{AreNamed, IsNamed, a_call_on_receiver, a_cast, a_class, a_field}
@@ -67,6 +67,9 @@ module _ (list : List ℕ) (files : Files) (codes : List MethodCode) (settings :
   unbroken : IsUnbroken list files codes settings
   unbroken = whole.unbroken
 
+  kept : KeepsNames list files codes settings
+  kept = kept_names unbroken
+
   -- an instruction of a method of this class, on a stack of these types
   module _ (class : ClassTree) (m : Method) (own : (let id = m.id in id.class) ≡ class.name) (b : Body)
       (holder : b.class ≡ class.name) (stack : List Cell) where
@@ -77,7 +80,7 @@ module _ (list : List ℕ) (files : Files) (codes : List MethodCode) (settings :
     Named op = IsNamed files image near tables m stack op
 
     unsupported_not : (op : JOp) → IsInsnOf files codes class op → names_unsupported op ≡ false
-    unsupported_not op at = (op_fit list files codes settings unbroken class op at).0
+    unsupported_not op at = (op_fit list files codes settings kept class op at).0
 
     int_not : (op : JOp) → IsInsnOf files codes class op → works_on_int op ≡ false
     int_not op at = op_free files codes (let u = whole.unbroken in u.no_int) class op at
@@ -163,19 +166,19 @@ module _ (list : List ℕ) (files : Files) (codes : List MethodCode) (settings :
         true id at (operand stack 1) (holds id.class (operand stack 1) (fits 1 (omega arith))) m in a_put_field f.0 f.1
     op_named (jop.Call op id) at h fits = call_named op id h.opcode at fits
     op_named (jop.New name) at h fits =
-        let ok = op_there list files codes settings unbroken class (jop.New name) at in
+        let ok = op_there list files codes settings kept class (jop.New name) at in
         a_class (object_fields w name) (new_fields files class name ok.0 ok.2) (objects_have_values list files codes
         settings (let u = whole.unbroken in u.checks) whole.read
         (is_solid list files codes settings tables whole) name)
     op_named (jop.NewArray n) at h fits = array_named n h (unsupported_not (jop.NewArray n) at)
         (int_not (jop.NewArray n) at)
-    op_named (jop.ANewArray name) at h fits = let c = array_of_class w name (op_there list files codes settings unbroken
+    op_named (jop.ANewArray name) at h fits = let c = array_of_class w name (op_there list files codes settings kept
         class (jop.ANewArray name) at).0 (unsupported_not (jop.ANewArray name) at) in an_array c.0 c.1
     op_named jop.ArrayLength at h fits = is_on_array arraylength
     op_named jop.Throw at h fits = throws
-    op_named (jop.CheckCast name) at h fits = let c = cast_there list files codes settings unbroken spelt class name at
+    op_named (jop.CheckCast name) at h fits = let c = cast_there list files codes settings kept spelt class name at
         in a_cast c.0 c.1 c.2
-    op_named (jop.InstanceOf name) at h fits = let c = test_there list files codes settings unbroken spelt class name at
+    op_named (jop.InstanceOf name) at h fits = let c = test_there list files codes settings kept spelt class name at
         in a_test c.0 c.1 c.2
 
   insns_are : (code : MethodCode) (class : ClassTree) (method : MethodTree) (tree : CodeTree)
@@ -215,6 +218,7 @@ module _ (list : List ℕ) (files : Files) (codes : List MethodCode) (settings :
             method = method;
             tree = tree;
             of_package = of;
+            written = h.written;
             listed = h.listed;
             place = at;
             insn = i;

@@ -30,12 +30,9 @@ use Rattle.cjc_world.specs.ExportFile.Members.{is_constant_type, may_be_constant
 use Rattle.cjc_world.specs.ExportFile.Writable.{ClassFits, FieldFits, ValueFits}
 use Rattle.cjc_shape_proof.proofs.FindsLaws.Descs.{read_of}
 use Rattle.cjc_shape_proof.proofs.FindsLaws.Fields.{lists_has, tested, tested_field, word_field}
-use Rattle.cjc_shape_proof.proofs.FindsLaws.Short.{kept_names}
-use Rattle.cjc_shape_proof.proofs.WrittenLaws.Insns.{op_fit, op_there}
 use Rattle.cjc_shape_proof.specs.Finds.{IsStaticFieldFound, IsUsable, finds_cell, finds_constant}
-use Rattle.cjc_shape_proof.specs.Written.Checked.{KeepsNames}
-use Rattle.cjc_narrow_proof.specs.Laws.Unbroken.{IsInsnOf, IsUnbroken}
-use Rattle.cjc_narrow_proof.proofs.LawsLaws.Instructions.{static_there}
+use Rattle.cjc_narrow_proof.specs.Laws.Unbroken.{IsInsnOf, IsUnbroken, KeepsNames}
+use Rattle.cjc_narrow_proof.proofs.LawsLaws.Instructions.{kept_names, op_fit, op_there, static_there}
 use Rattle.cjc_narrow_proof.specs.Runs.Names.{IsNamed, a_constant, a_static}
 use Rattle.cjc_narrow_proof.specs.Runs.Tables.{Tables}
 use Rattle.cjc_components.specs.Range.Span.{Holds, full}
@@ -258,7 +255,8 @@ module _ (list : List ℕ) (files : Files) (codes : List MethodCode) (settings :
       → IsStaticFieldFound files image put id
   constant_is false id k z constant is_so usable number held =
       finds_constant z refl usable number held (named_is false id k (Some z) constant)
-  constant_is true id k z constant is_so usable number held = (let no : true ≡ false = sym is_so ∙ k.read_only in absurd cc)
+  constant_is true id k z constant is_so usable number held = (let no : true ≡ false = sym is_so ∙ k.read_only
+      in absurd cc)
 
   -- any other is a cell
   cell_is : (put : Bool) (id : MemberId) (k : IsKnown put id) (n : ℕ) (t : ClassTree) (x : FieldTree)
@@ -324,8 +322,8 @@ module _ (list : List ℕ) (files : Files) (codes : List MethodCode) (settings :
       by true (Some z) f g at is_so =
           let y = x0.0 in
           let desc : y.desc ≡ id.desc = sym (ap (λ (v : Member). v.desc) x0.2) ∙ (let p = k.at in p.has_desc) in
-          constant_is put id k z at is_so (usable_by put id k y.flags y.desc desc f) (ap (λ v. result_of (parts v).result) (sym desc)
-          ∙ constant_typed y.flags y.desc f) ((let r = read_of files read n t is_class in r.constants) pl y z x0.1
+          constant_is put id k z at is_so (usable_by put id k y.flags y.desc desc f)
+          (ap (λ v. result_of (parts v).result) (sym desc) ∙ constant_typed y.flags y.desc f) ((let r = read_of files read n t is_class in r.constants) pl y z x0.1
           g)
       by true None f g at is_so = cell_is put id k n t x0.0 is_class x0.1 owner x0.2 at (ap (λ b. b
           && is_some (let y = x0.0 in y.constant)) f ∙ ap is_some g)
@@ -389,7 +387,8 @@ module _ (list : List ℕ) (files : Files) (codes : List MethodCode) (settings :
           let y = x0.0 in
           let desc : y.desc ≡ id.desc = sym (ap (λ (v : Member). v.desc) x0.2) ∙ (let p = k.at in p.has_desc) in
           constant_is put id k z (at ∙ ap (λ b. if b then y.constant else None) f ∙ g) (tested_at
-          ∙ constant) (usable_by put id k y.flags y.desc desc f) (ap (λ v. result_of (parts v).result) (sym desc) ∙ constant_typed y.flags y.desc f)
+          ∙ constant) (usable_by put id k y.flags y.desc desc f)
+          (ap (λ v. result_of (parts v).result) (sym desc) ∙ constant_typed y.flags y.desc f)
           (value_of y.constant z g fits)
       by true None f g = (let no : false ≡ true = sym (ap (λ b. b && is_some (let y = x0.0 in y.constant)) f
           ∙ ap is_some g) ∙ constant in absurd cc)

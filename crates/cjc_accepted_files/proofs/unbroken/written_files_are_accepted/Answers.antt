@@ -6,10 +6,11 @@ use Rattle.cjc_components.specs.LowerCheckRules.Complete.{complete}
 use Rattle.cjc_components.specs.Components.{components_of}
 
 pub returns : goal.returns
-returns c = λ list files made read is trees spell fair spelt spelt_is image is_image cap cap_is whole whole_is.
+returns c = λ list files made read by_modes trees spell fair none spelt spelt_is image is_image cap cap_is whole
+    whole_is.
+    let (is, conv) = c.conversions_are_of_packages.ensures list files made read by_modes trees spell fair none in
     let judged = is.judged in
     let p = is.whole in
-    let conv = c.conversions_are_of_packages.ensures list files made read is trees spell fair in
     let same : cap ≡ components_of p = same_some (sym cap_is ∙ c.written_files_are_read_back.ensures.components p
     made.caps is.caps_spelt) in
     c.written_components_are_accepted.ensures list files judged p conv

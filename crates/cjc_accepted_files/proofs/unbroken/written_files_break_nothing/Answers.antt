@@ -2,15 +2,15 @@ use Rattle.cjc_accepted_files.proofs.UnbrokenLaws.{none_broken}
 use Rattle.cjc_accepted_files.proofs.unbroken.written_files_break_nothing.Goals as goal
 
 pub returns-clause-read : goal.returns-clause-read
-returns-clause-read c = λ list files made read is trees spell fair.
-    c.written_files_are_read_back.ensures.read list files is.judged is.whole
-    (c.conversions_are_of_packages.ensures list files made read is trees spell fair) made.caps is.caps is.caps_spelt
+returns-clause-read c = λ list files made read by_modes trees spell fair none.
+    let (is, conv) = c.conversions_are_of_packages.ensures list files made read by_modes trees spell fair none in
+    c.written_files_are_read_back.ensures.read list files is.judged is.whole conv made.caps is.caps is.caps_spelt
 
 pub returns-clause-unbroken : goal.returns-clause-unbroken
-returns-clause-unbroken c = λ list files made read is trees spell fair.
+returns-clause-unbroken c = λ list files made read by_modes trees spell fair none.
+    let (is, conv) = c.conversions_are_of_packages.ensures list files made read by_modes trees spell fair none in
     let judged = is.judged in
     let p = is.whole in
-    let conv = c.conversions_are_of_packages.ensures list files made read is trees spell fair in
     let folder = c.written_files_are_read_back.ensures in
     none_broken list files judged p conv c.consistent_where_unbroken.ensures.unbroken
     (c.converted_files_are_sound.ensures.image list files judged p conv)

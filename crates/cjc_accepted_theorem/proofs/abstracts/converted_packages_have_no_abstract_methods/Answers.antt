@@ -30,7 +30,8 @@ returns c = λ list files judged p is.
     let solid = own_solid list files judged p is in
     let tokens = kept.tokens list files judged p is in
     let far = dispatch.imported_calls (world p) keeps.rules keeps.imported in
-    none_abstract list files judged p is known keeps solid tokens mean mean_here far (λ h x z tower le.
+    none_abstract list files judged p is
+    (c.converted_packages_are_laid_out.ensures list files judged p is) known keeps solid tokens mean mean_here far (λ h x z tower le.
     c.dispatch_agrees.ensures (world p) keeps.rules.acyclic (naming p) (method_offset p) low (says_kinds list.name p
     sound) h x z tower le) (λ d named own plain j f e. (
     let k = has-get d (class_order (world p)) (order_has list.name p.files sound d (has_named (world p) d.name d named)

@@ -5,7 +5,6 @@ use Rattle.cjc_verified_proof.specs.Components.Package.{world}
 use Rattle.cjc_theorem.proofs.ShapeProofOfFiles.{is_of_files}
 use Rattle.cjc_theorem.proofs.ShapeProofFiles.{files_sound}
 use Rattle.cjc_theorem.proofs.AlikeLaws.MetLaws.Cells.{cells_fit}
-use Rattle.cjc_theorem.proofs.AlikeLaws.MetLaws.LaidOut.{laid_out}
 use Rattle.cjc_verified_proof.specs.TokenProof.Tables.Known.{statics_of}
 use Rattle.cjc_verified_proof.proofs.TokenProofWrittenCallsKnown.{facts}
 use Rattle.cjc_verified_proof.proofs.TokenProofWrittenCallsWritten.{methods_fit}
@@ -17,7 +16,7 @@ returns c = λ list files judged p is.
     let told = c.static_fields_are_told.ensures.cells list.name p (all_codes classes) (its.sound list files judged p is)
     (its.typed list files judged p is) (its.image list files judged p is) (its.once list files judged p is) in
     let fit = cells_fit p.image (statics_of classes) told (c.static_images_fit.ensures list files judged p
-    (laid_out list files judged p is)) in
+    (c.converted_packages_are_laid_out.ensures list files judged p is)) in
     let kept = c.converted_classes_keep_rules.ensures in
     let keeps = kept.keeps list files judged p is in
     let laws = c.lookup_laws.ensures in

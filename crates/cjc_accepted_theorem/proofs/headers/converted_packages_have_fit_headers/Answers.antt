@@ -13,3 +13,4 @@ returns c = λ list files judged p is.
     (c.methods_are_cut.ensures.whole p names methods written)
     (c.jumps_land_in_code.ensures p names methods written (its.inside list files judged p is))
     (c.converted_packages_have_card_types.ensures list files judged p is)
+    (c.converted_packages_are_laid_out.ensures list files judged p is)

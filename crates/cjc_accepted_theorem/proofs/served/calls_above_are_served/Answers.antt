@@ -7,7 +7,6 @@ use Rattle.cjc_verified_proof.specs.Components.Package.{world}
 use Rattle.cjc_theorem.proofs.ShapeProofFiles.{files_sound}
 use Rattle.cjc_theorem.proofs.ShapeProofOfFiles.{is_of_files}
 use Rattle.cjc_theorem.proofs.AlikeLaws.MetLaws.Cells.{cells_fit}
-use Rattle.cjc_theorem.proofs.AlikeLaws.MetLaws.LaidOut.{laid_out}
 use Rattle.cjc_theorem.proofs.VTableFiled.{has-get}
 use Rattle.cjc_verified_proof.specs.TokenProof.Tables.Known.{statics_of}
 use Rattle.cjc_verified_proof.specs.TokenProof.WrittenCalls.Standing.{place}
@@ -27,7 +26,7 @@ returns c = λ list files judged p is m b.
     let sound = files_sound list files judged p is in
     let told = c.static_fields_are_told.ensures.cells list.name p (all_codes classes) (its.sound list files judged p is)
     typed (its.image list files judged p is) (its.once list files judged p is) in
-    let laid = laid_out list files judged p is in
+    let laid = c.converted_packages_are_laid_out.ensures list files judged p is in
     let fit = cells_fit p.image (statics_of classes) told (c.static_images_fit.ensures list files judged p laid) in
     let kept = c.converted_classes_keep_rules.ensures in
     let keeps = kept.keeps list files judged p is in
@@ -57,7 +56,7 @@ returns c = λ list files judged p is m b.
     (c.converted_methods_are_in_order.ensures list files judged p is) (own_ids list.name p sound)
     (classes_stand list.name p sound) in
     above_served list files judged p is (c.converted_packages_have_their_types.ensures.subtypes list files judged p is)
-    described named (c.types_are_known.ensures list files judged p is) met has known begin
+    described named (c.types_are_known.ensures list files judged p laid of_files) met has known begin
     (c.exports_have_code.ensures list files judged p is) kept_files (kept.subtypes list files judged p is)
     (kept.tokens list files judged p is) (place p) begins (λ d named_d own plain j f e. (
     let k = has-get d (class_order (world p)) (order_has list.name p.files sound d (has_named (world p) d.name d

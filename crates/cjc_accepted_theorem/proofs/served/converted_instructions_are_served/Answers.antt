@@ -6,7 +6,6 @@ use Rattle.cjc_verified_proof.specs.Components.Package.{world}
 use Rattle.cjc_theorem.proofs.ShapeProofFiles.{files_sound}
 use Rattle.cjc_theorem.proofs.ShapeProofOfFiles.{is_of_files}
 use Rattle.cjc_theorem.proofs.AlikeLaws.MetLaws.Cells.{cells_fit}
-use Rattle.cjc_theorem.proofs.AlikeLaws.MetLaws.LaidOut.{laid_out}
 use Rattle.cjc_verified_proof.specs.TokenProof.Tables.Known.{statics_of}
 use Rattle.cjc_verified_proof.proofs.TokenProofWrittenCallsKnown.{facts}
 use Rattle.cjc_verified_proof.proofs.TokenProofWrittenCallsWritten.{methods_fit}
@@ -19,7 +18,7 @@ returns c = λ list files judged p is m b.
     let sound = files_sound list files judged p is in
     let told = c.static_fields_are_told.ensures.cells list.name p (all_codes classes) (its.sound list files judged p is)
     typed (its.image list files judged p is) (its.once list files judged p is) in
-    let laid = laid_out list files judged p is in
+    let laid = c.converted_packages_are_laid_out.ensures list files judged p is in
     let fit = cells_fit p.image (statics_of classes) told (c.static_images_fit.ensures list files judged p laid) in
     let kept = c.converted_classes_keep_rules.ensures in
     let keeps = kept.keeps list files judged p is in
@@ -42,6 +41,6 @@ returns c = λ list files judged p is m b.
     let described = c.descriptor_says_what_the_package_says.ensures p typed (c.sizes_fit.ensures.types list files judged
     p laid is.sizes) (c.converted_packages_have_card_types.ensures list files judged p is) named in
     served_at list files judged p is (c.converted_packages_have_their_types.ensures.subtypes list files judged p is)
-    described named (c.types_are_known.ensures list files judged p is) met has known
+    described named (c.types_are_known.ensures list files judged p laid of_files) met has known
     (c.converted_methods_begin.ensures list files judged p is) (c.exports_have_code.ensures list files judged p is)
     kept_files m b (λ id of over holds key. c.calls_above_are_served.ensures list files judged p is m b id of holds key)

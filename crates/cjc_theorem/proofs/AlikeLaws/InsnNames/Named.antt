@@ -1,10 +1,10 @@
 -- What each instruction of a converted package's class files names is there.
-use Rattle.std.proofs.Common.{◌≡◌, ℕ, sym, ap, ◌∙◌, Bool, true, List}
+use Rattle.std.proofs.Common.{◌≡◌, sym, ap, ◌∙◌, Bool, true, List}
 use Rattle.std.specs.Prelude.{None, Some, option_and_then}
 use Rattle.cjc_bytes.specs.declared.fault.MemberId.{MemberId}
 use Rattle.cjc_jvm_semantics.specs.OnePackage.{constant_at, of_class}
 use Rattle.cjc_token_proof.specs.ByToken.Cells.{HasCells, fields, is_one_of, letter}
-use Rattle.cjc_shape_proof.proofs.WrittenLaws.Insns.{cast_there, op_fit, op_there, test_there}
+use Rattle.cjc_narrow_proof.proofs.LawsLaws.Casts.{cast_there, test_there}
 use Rattle.cjc_shape_proof.specs.WorldProof.Calls.Solid.{IsSolid}
 use Rattle.cjc_token_proof.specs.CardSemantics.Machine.ByToken.{letter_of}
 use Rattle.cjc_world.specs.ClassFile.declared.tree.ClassTree.{ClassTree}
@@ -18,15 +18,15 @@ use Rattle.cjc_shape_proof.specs.LowerJudge.Rules.{settings_of}
 use Rattle.cjc_token_proof.specs.List.Listed.{ListTree}
 use Rattle.cjc_theorem.proofs.AlikeLaws.NamedLaws.Members.{field_named, static_named, static_own}
 use Rattle.cjc_token_proof.specs.Narrow.Rows.Resolved.{constant_named, resolved_field}
-use Rattle.cjc_narrow_proof.proofs.LawsLaws.Instructions.{array_of_class, new_fields}
-use Rattle.cjc_narrow_proof.specs.Laws.Unbroken.{IsInsnOf}
+use Rattle.cjc_narrow_proof.proofs.LawsLaws.Instructions.{array_of_class, new_fields, op_fit, op_there}
+use Rattle.cjc_narrow_proof.specs.Laws.Unbroken.{IsInsnOf, KeepsNames}
 use Rattle.cjc_token_proof.specs.Script.Sorts.{field_sort}
 use Rattle.cjc_token_proof.specs.Tables.Known.{is_field_of, may_name, order_of, statics_of}
 use Rattle.cjc_vtable.proofs.Filed.{filed}
 use Rattle.cjc_world.specs.Classes.{Class}
 use Rattle.cjc_shape_proof.proofs.WrittenLaws.Checked.{are_spelt, own_names}
 use Rattle.cjc_shape_proof.proofs.WrittenLaws.Checked.{own_solid}
-use Rattle.cjc_shape_proof.specs.Written.Checked.{IsOfFiles, KeepsNames}
+use Rattle.cjc_shape_proof.specs.Written.Checked.{IsOfFiles}
 use Rattle.cjc_token_proof.specs.WrittenSends.Named.{NamesWhatIsThere}
 
 module _ (list : ListTree) (codes : List MethodCode) (p : Package) (is : IsOfFiles list codes p)

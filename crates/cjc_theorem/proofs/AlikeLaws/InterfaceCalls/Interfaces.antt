@@ -1,5 +1,5 @@
 -- What an invokeinterface calls stands among the methods of the interface in which it is found.
-use Rattle.std.proofs.Common.{◌≡◌, ℕ, sym, ap, ◌∙◌, List, []}
+use Rattle.std.proofs.Common.{◌≡◌, ℕ, sym, ap, ◌∙◌, List}
 use Rattle.std.specs.Prelude.{Some}
 use Rattle.cjc_bytes.specs.AccessFlags.{is_interface}
 use Rattle.cjc_bytes.specs.declared.fault.MemberId.{MemberId}
@@ -7,7 +7,7 @@ use Rattle.cjc_world.specs.ClassFile.declared.tree.ClassTree.{ClassTree}
 use Rattle.cjc_components.specs.Bytecode.declared.method_code.MethodCode.{MethodCode}
 use Rattle.cjc_components.specs.Bytecode.declared.insn.JOp.TheVariants as jop
 use Rattle.cjc_components.specs.Package.{Package, world}
-use Rattle.cjc_shape_proof.proofs.WrittenLaws.Insns.{op_there}
+use Rattle.cjc_narrow_proof.proofs.LawsLaws.Instructions.{op_there}
 use Rattle.cjc_shape_proof.specs.LowerJudge.Rules.{has_applets, settings_of}
 use Rattle.cjc_shape_proof.proofs.ShapeCalled.{resolved_declared, resolved_token}
 use Rattle.cjc_token_proof.specs.List.Listed.{ListTree}

@@ -1,5 +1,5 @@
 -- A private method that code calls is one that calls can name, by the class that declares it.
-use Rattle.std.proofs.Common.{◌≡◌, ℕ, refl, sym, ap, subst, ◌∙◌, Bool, true, false, List}
+use Rattle.std.proofs.Common.{◌≡◌, refl, sym, ap, subst, ◌∙◌, Bool, true, false, List}
 use Rattle.std.specs.Prelude.{◌||◌, Some, option_and_then}
 use Rattle.cjc_bytes.specs.AccessFlags.{is_private, is_static}
 use Rattle.cjc_bytes.specs.declared.fault.MemberId.{MemberId}

@@ -10,13 +10,13 @@ use Rattle.cjc_jvm_semantics.specs.OnePackage.{is_initialiser, of_class}
 use Rattle.cjc_token_proof.proofs.WorldProofOwn.{mapped_at}
 use Rattle.cjc_token_proof.specs.CardSemantics.Machine.Classes.{with_token}
 use Rattle.cjc_world.specs.ClassFile.declared.tree.ClassTree.{ClassTree}
+use Rattle.cjc_components.specs.Bytecode.declared.method_code.MethodCode.{MethodCode}
 use Rattle.cjc_shape_proof.specs.LowerCheckProof.Code.Members.{IsImportedClass, IsImportedMethod, classes_before}
 use Rattle.cjc_token_proof.specs.Components.Whole.{exports_of}
 use Rattle.cjc_components.specs.Package.{Package, world}
 use Rattle.cjc_world.specs.ExportFile.Members.{is_unbound}
 use Rattle.cjc_world.specs.ExportFile.declared.tree.ExportClass.{ExportClass}
 use Rattle.cjc_world.specs.ExportFile.declared.tree.ExportTree.{ExportTree}
-use Rattle.cjc_shape_proof.specs.LowerJudge.declared.judged.Judged.{Judged}
 use Rattle.cjc_token_proof.specs.List.Listed.{ListTree}
 use Rattle.cjc_token_proof.specs.Subset.Members.{imports}
 use Rattle.cjc_token_proof.proofs.TablesLaws.Above.{entry_of_name}
@@ -24,8 +24,8 @@ use Rattle.cjc_token_proof.proofs.TablesLaws.Clean.{own_name}
 use Rattle.cjc_token_proof.proofs.TablesLaws.Filed.{import_in}
 use Rattle.cjc_world.specs.Classes.{Class, Member, class_named, field_of_export, imported, method_of_export}
 use Rattle.cjc_world.specs.Lookup.{member_at}
-use Rattle.cjc_shape_proof.specs.Written.Converted.{IsConverted}
-use Rattle.cjc_shape_proof.proofs.WrittenLaws.Files.{files_sound}
+use Rattle.cjc_shape_proof.specs.Written.Checked.{IsOfFiles}
+use Rattle.cjc_shape_proof.proofs.WrittenLaws.Checked.{files_sound}
 use Rattle.cjc_theorem.proofs.AlikeLaws.MetLaws.Own.{Names_method}
 
 -- ---- lists
@@ -66,8 +66,7 @@ imports_at (u ∷ trees) (suc file) t place c e f =
     ap (slice_get (u.classes ++ imports trees)) at ∙ get_behind u.classes (imports trees) (classes_before file trees +
     place) ∙ imports_at trees file t place c e f
 
-module _ (list : ListTree) (files : List (List ℕ)) (judged : Judged) (p : Package) (is : IsConverted list files judged
-    p) where
+module _ (list : ListTree) (codes : List MethodCode) (p : Package) (is : IsOfFiles list codes p) where
   abbrev w : List Class
   w = world p
 
@@ -79,7 +78,7 @@ module _ (list : ListTree) (files : List (List ℕ)) (judged : Judged) (p : Pack
 
   abroad : (d : Class) → class_named w d.name ≡ Some d → d.is_imported ≡ true → IsAbroad d
   abroad d named import =
-      let sound = files_sound list files judged p is in
+      let sound = files_sound list codes p is.checked in
       let h = entry_of_name list.name p sound d.name d named import in
       let e = h.entry in
       let tree = h.tree in
@@ -107,7 +106,7 @@ module _ (list : ListTree) (files : List (List ℕ)) (judged : Judged) (p : Pack
       }
 
   pub abroad_named : (class : ClassTree) (op : ℕ) (id : MemberId)
-      → (n : Names_method list files judged p is class op id) → (let d = n.owner in d.is_imported) ≡ true
+      → (n : Names_method list codes p is class op id) → (let d = n.owner in d.is_imported) ≡ true
       → is_unbound (let a = n.at in let m = a.member in m.flags) (let a = n.at in let m = a.member in m.name) ≡ true
       → IsImportedMethod p (of_class (let d = n.owner in d.name) id)
   abroad_named class op id n import bound =

@@ -1,8 +1,7 @@
--- What each key of a converted package's pool names, by the instruction of a class file that names it.
+-- What each key of a package's pool names, by the instruction of a class file that names it.
 use Rattle.std.proofs.Common.{◌≡◌, ⊎_elim, ℕ, refl, sym, ap, subst, ◌∙◌, Bool, true, false, List, [], ◌∷◌}
 use Rattle.std.specs.Prelude.{Option, Some, None, option_and_then, slice_get, if◌then◌else◌}
-use Rattle.cjc_shape_proof.proofs.WrittenLaws.Insns.{cast_there, op_fit, op_there, test_there}
-use Rattle.cjc_shape_proof.specs.Written.Checked.{KeepsNames}
+use Rattle.cjc_narrow_proof.proofs.LawsLaws.Casts.{cast_there, test_there}
 use Rattle.cjc_bytes.specs.AccessFlags.{is_interface}
 use Rattle.cjc_bytes.specs.declared.fault.MemberId.{MemberId}
 use Rattle.cjc_jvm_semantics.specs.OnePackage.{is_made, object_fields}
@@ -13,10 +12,8 @@ use Rattle.cjc_components.specs.Bytecode.declared.method_code.MethodCode.{Method
 use Rattle.cjc_narrow_proof.specs.Sources as sources
 use Rattle.cjc_narrow_proof.specs.Sources.{IsWrittenFor, NamesClass, names_nothing}
 use Rattle.cjc_components.specs.Package.{LaidMethod, Package, pool, world}
-use Rattle.cjc_shape_proof.proofs.WrittenLaws.OfFiles.{is_of_files}
 use Rattle.cjc_shape_proof.proofs.WrittenLaws.FittingLaws.Order.{has_cons, has_none}
 use Rattle.cjc_shape_proof.specs.LowerJudge.Rules.{settings_of}
-use Rattle.cjc_shape_proof.specs.LowerJudge.declared.judged.Judged.{Judged}
 use Rattle.cjc_token_proof.specs.List.Listed.{ListTree}
 use Rattle.cjc_theorem.specs.Alike.Opcodes.{CallsHaveOpcodes}
 use Rattle.cjc_theorem.proofs.AlikeLaws.NamedLaws.Members.{NamesMethod, method_named}
@@ -26,9 +23,9 @@ use Rattle.cjc_token_proof.specs.Narrow.Rows.Resolved.{constant_named, method_fo
 use Rattle.cjc_token_proof.specs.Narrow.Rows.Resolved.{resolved_method}
 use Rattle.cjc_token_proof.specs.Narrow.Rows.Resolved.{special_by, virtual_by}
 use Rattle.cjc_token_proof.specs.Narrow.Rows.Selected.{near_fields}
-use Rattle.cjc_narrow_proof.specs.Laws.Unbroken.{IsInsnOf}
+use Rattle.cjc_narrow_proof.specs.Laws.Unbroken.{IsInsnOf, KeepsNames}
 use Rattle.cjc_narrow_proof.proofs.LawsLaws.Handlers.{caught_there, class_there}
-use Rattle.cjc_narrow_proof.proofs.LawsLaws.Instructions.{array_of_class, new_fields}
+use Rattle.cjc_narrow_proof.proofs.LawsLaws.Instructions.{array_of_class, new_fields, op_fit, op_there}
 use Rattle.cjc_narrow_proof.specs.Runs.Types as types
 use Rattle.cjc_narrow_proof.specs.Runs.Types.{IsThere}
 use Rattle.cjc_ncode.specs.PoolOrder.{class_key, insn_keys}
@@ -41,9 +38,9 @@ use Rattle.cjc_token_proof.specs.Script.Sorts.{OfClass, OfReferences, Shape, sha
 use Rattle.cjc_vtable.proofs.Filed.{Has}
 use Rattle.cjc_world.specs.Classes.{Class, all_classes, class_named, declared}
 use Rattle.cjc_world.specs.Files.{Files}
-use Rattle.cjc_shape_proof.specs.Written.Converted.{IsConverted}
-use Rattle.cjc_shape_proof.proofs.WrittenLaws.Files.{are_spelt, own_names}
-use Rattle.cjc_shape_proof.proofs.WrittenLaws.Worlds.{own_solid}
+use Rattle.cjc_shape_proof.specs.Written.Checked.{IsOfFiles}
+use Rattle.cjc_shape_proof.proofs.WrittenLaws.Checked.{are_spelt, own_names}
+use Rattle.cjc_shape_proof.proofs.WrittenLaws.Checked.{own_solid}
 use Rattle.cjc_theorem.proofs.AlikeLaws.MetLaws.PoolKeys.{IsNamedIn, by_handler, by_insn, key_named, of_any}
 
 -- A class that is there, or what an instruction of a class file names; of an invokespecial the class that holds it is
@@ -82,24 +79,20 @@ no_key (insns.NewArray number) h = refl
 no_key (insns.TypeTest op number None) h = refl
 no_key (insns.TypeTest op number (Some c)) h = cc
 
-module _ (list : ListTree) (files : List (List ℕ)) (judged : Judged) (p : Package) (is : IsConverted list files judged
-    p) where
+module _ (list : ListTree) (codes : List MethodCode) (p : Package) (is : IsOfFiles list codes p) where
   abbrev w : List Class
   w = world p
 
-  abbrev codes : List MethodCode
-  codes = judged.codes
-
-  abbrev u : KeepsNames list.name p.files judged.codes (settings_of list)
-  u = own_names list files judged p is
+  abbrev u : KeepsNames list.name p.files codes (settings_of list)
+  u = own_names list codes p is.checked
 
   abbrev pub Calls_method : (class : ClassTree) (op : ℕ) (id : MemberId) → Type 0
-  Calls_method class op id = NamesMethod list.name p.files judged.codes (settings_of list) u
-      (own_solid list files judged p is) class op id
+  Calls_method class op id = NamesMethod list.name p.files codes (settings_of list) u
+      (own_solid list codes p is.checked) class op id
 
   pub called : (class : ClassTree) (op : ℕ) (id : MemberId) → IsInsnOf p.files codes class (jop.Call op id)
       → Calls_method class op id
-  called = method_named list.name p.files judged.codes (settings_of list) u (own_solid list files judged p is)
+  called = method_named list.name p.files codes (settings_of list) u (own_solid list codes p is.checked)
 
   -- ---- classes that instructions name
 
@@ -137,7 +130,7 @@ module _ (list : ListTree) (files : List (List ℕ)) (judged : Judged) (p : Pack
 
   -- ---- keys that instructions name
 
-  module _ (opcodes : CallsHaveOpcodes judged.codes) where
+  module _ (opcodes : CallsHaveOpcodes codes) where
     source_met : (near : List MemberId) (n : ℕ) (class : ClassTree) → class_named w class.name ≡ Some (declared n class)
         → is_interface class.flags ≡ false → (op : JOp) (i : NInsn) → IsInsnOf p.files codes class op
         → IsWrittenFor (resolution p.files near class.name) op i → (key : PoolKey) → Has key (insn_keys i)
@@ -174,28 +167,28 @@ module _ (list : ListTree) (files : List (List ℕ)) (judged : Judged) (p : Pack
     source_met near n class named plain op i of (sources.of_array {class = name}) key h =
         (let c = class_of_array class name of in only (IsMet p.files codes) (keys.Class name) key (of_class c.0 c.1) h)
     source_met near n class named plain op i of (sources.of_cast {name = name} {class = x} names) key h =
-        let there = cast_there list.name p.files codes (settings_of list) u (are_spelt list files judged p is) class
+        let there = cast_there list.name p.files codes (settings_of list) u (are_spelt list codes p is.checked) class
         name of in
         let c = class_of_type x (shape_named name) there.0 there.1 there.2 names in
         only (IsMet p.files codes) (keys.Class x) key (of_class c.0 c.1) h
     source_met near n class named plain op i of (sources.of_test {name = name} {class = x} names) key h =
-        let there = test_there list.name p.files codes (settings_of list) u (are_spelt list files judged p is) class
+        let there = test_there list.name p.files codes (settings_of list) u (are_spelt list codes p is.checked) class
         name of in
         let c = class_of_type x (shape_named name) there.0 there.1 there.2 names in
         only (IsMet p.files codes) (keys.Class x) key (of_class c.0 c.1) h
 
-    insn_met : (k : ℕ) (m : LaidMethod) (e : slice_get p.methods k ≡ Some m) (j : ℕ) (insn : NInsn)
+    pub insn_met : (k : ℕ) (m : LaidMethod) (e : slice_get p.methods k ≡ Some m) (j : ℕ) (insn : NInsn)
         → (let code = m.code in slice_get code.insns j ≡ Some insn) → (key : PoolKey) → Has key (insn_keys insn)
         → IsMet p.files codes key
     insn_met k m e j insn f key h =
-        by (has_source list judged.codes p (is_of_files list files judged p is) k m e j insn f)
+        by (has_source list codes p is k m e j insn f)
       where
         by : HasSource p.files codes (near_fields (pool p))
-            (let q = holder list judged.codes p (is_of_files list files judged p is) k m e in q.class) insn
+            (let q = holder list codes p is k m e in q.class) insn
             → IsMet p.files codes key
         by (no_source none) = has_none key (subst (λ ks. Has key ks) (no_key insn none) h)
         by (of_insn op of written) =
-            let q = holder list judged.codes p (is_of_files list files judged p is) k m e in
+            let q = holder list codes p is k m e in
             source_met (near_fields (pool p)) (let g = m.member in g.class) q.class q.named q.no_interface op insn of
             written key h
 
@@ -209,7 +202,7 @@ module _ (list : ListTree) (files : List (List ℕ)) (judged : Judged) (p : Pack
         by : (o : Option (List ℕ)) → c.class ≡ o → Has key (class_key o) → IsMet p.files codes key
         by None g h = has_none key h
         by (Some name) g h =
-            let s = has_catch list judged.codes p (is_of_files list files judged p is) k m e j c f in
+            let s = has_catch list codes p is k m e j c f in
             let x = s.handler in
             let at = class_there w name (caught_there p.files codes u.names s.code _ s.method s.tree s.of s.listed x
             name s.there (s.same ∙ g)) in
@@ -221,6 +214,6 @@ module _ (list : ListTree) (files : List (List ℕ)) (judged : Judged) (p : Pack
     key_met k key e = by (key_named p key k e)
       where
         by : IsNamedIn p key → IsMet p.files codes key
-        by (of_any same) = subst (IsMet p.files codes) same (let r = is.exports.root in of_class _ r.found)
+        by (of_any same) = subst (IsMet p.files codes) same (let r = is.checked.exports.root in of_class _ r.found)
         by (by_insn n m there j insn at h) = insn_met n m there j insn at key h
         by (by_handler n m there j c at h) = catch_met n m there j c at key h

@@ -1,4 +1,4 @@
--- Fields and methods of a converted package that its code names, as entries of its pool name them.
+-- Fields and methods of a package that its code names, as entries of its pool name them.
 use Rattle.std.proofs.Common.{◌≡◌, ℕ, suc, ◌+◌, refl, sym, ap, subst, ◌∙◌, Bool, true, false, not, List, [], ◌∷◌}
 use Rattle.std.proofs.Common.{length}
 use Rattle.std.specs.Prelude.{◌&&◌, ◌||◌, ◌==◌, Option, Some, None, flat_map, is_some, option_and_then, option_map}
@@ -6,7 +6,7 @@ use Rattle.std.specs.Prelude.{slice_get, if◌then◌else◌, ℤ}
 use Rattle.std.specs.List.{list_any}
 use Rattle.std.specs.Str.{bytes_eq}
 use Rattle.std.proofs.lemmas.Bool.{eqb-true, and_from}
-use Rattle.cjc_shape_proof.specs.Written.Checked.{KeepsNames}
+use Rattle.cjc_narrow_proof.specs.Laws.Unbroken.{KeepsNames}
 use Rattle.cjc_bytes.specs.AccessFlags.{is_interface, is_static}
 use Rattle.cjc_bytes.specs.declared.fault.MemberId.{MemberId}
 use Rattle.cjc_bytes.proofs.Gets.{all_at}
@@ -19,6 +19,7 @@ use Rattle.cjc_shape_proof.specs.WorldProof.Calls.Solid.{IsSolid}
 use Rattle.cjc_token_proof.specs.Calls.Reaching.{is_same}
 use Rattle.cjc_world.specs.ClassFile.declared.tree.ClassTree.{ClassTree}
 use Rattle.cjc_world.specs.ClassFile.declared.tree.FieldTree.{FieldTree}
+use Rattle.cjc_components.specs.Bytecode.declared.method_code.MethodCode.{MethodCode}
 use Rattle.cjc_token_proof.specs.Clinit.Image.{field_id}
 use Rattle.cjc_shape_proof.specs.LowerCheckProof.Code.Members.{CellsFit, IsOwnCell, IsOwnClass, IsOwnField, IsOwnMethod}
 use Rattle.cjc_token_proof.proofs.ComponentsLaws.Apart.{IsOwn, order_own}
@@ -26,7 +27,6 @@ use Rattle.cjc_components.specs.Class.{fields_in, fields_of}
 use Rattle.cjc_components.specs.Package.{Package, world}
 use Rattle.cjc_world.specs.ExportFile.Members.{may_be_constant}
 use Rattle.cjc_shape_proof.specs.LowerJudge.Rules.{settings_of}
-use Rattle.cjc_shape_proof.specs.LowerJudge.declared.judged.Judged.{Judged}
 use Rattle.cjc_token_proof.specs.List.Listed.{ListTree}
 use Rattle.cjc_theorem.proofs.AlikeLaws.NamedLaws.Members.{NamesField, NamesMethod, static_own}
 use Rattle.cjc_token_proof.specs.Narrow.Rows.Resolved.{constant_named}
@@ -46,9 +46,9 @@ use Rattle.cjc_world.specs.Rules.{is_twice}
 use Rattle.cjc_world.specs.declared.found.Found.{Found}
 use Rattle.cjc_world.proofs.Settled.{supertypes-AreSupertypes}
 use Rattle.cjc_token_proof.proofs.WrittenCalls.Found.{stands_in_method}
-use Rattle.cjc_shape_proof.specs.Written.Converted.{IsConverted}
-use Rattle.cjc_shape_proof.proofs.WrittenLaws.Files.{files_sound, own_names}
-use Rattle.cjc_shape_proof.proofs.WrittenLaws.Worlds.{own_ordered, own_solid}
+use Rattle.cjc_shape_proof.specs.Written.Checked.{IsOfFiles}
+use Rattle.cjc_shape_proof.proofs.WrittenLaws.Checked.{files_sound, own_names}
+use Rattle.cjc_shape_proof.proofs.WrittenLaws.Checked.{own_ordered, own_solid}
 use Rattle.cjc_shape_proof.proofs.FindsLaws.Fields.{no_constant}
 use Rattle.cjc_theorem.proofs.AlikeLaws.MetLaws.Cells.{has_cell, is_static_of}
 
@@ -109,27 +109,26 @@ same_id class name desc id e f = ap (λ v. record { class = class; name = v; des
 
 -- ---- tests
 
-module _ (list : ListTree) (files : List (List ℕ)) (judged : Judged) (p : Package) (is : IsConverted list files judged
-    p) where
+module _ (list : ListTree) (codes : List MethodCode) (p : Package) (is : IsOfFiles list codes p) where
   abbrev w : List Class
   w = world p
 
-  abbrev u : KeepsNames list.name p.files judged.codes (settings_of list)
-  u = own_names list files judged p is
+  abbrev u : KeepsNames list.name p.files codes (settings_of list)
+  u = own_names list codes p is.checked
 
   abbrev solid : IsSolid p.files
-  solid = own_solid list files judged p is
+  solid = own_solid list codes p is.checked
 
   abbrev pub Names_field : MemberId → Bool → Type 0
-  Names_field id static = NamesField list.name p.files judged.codes (settings_of list) u solid id static
+  Names_field id static = NamesField list.name p.files codes (settings_of list) u solid id static
 
   abbrev pub Names_method : (class : ClassTree) (op : ℕ) (id : MemberId) → Type 0
-  Names_method class op id = NamesMethod list.name p.files judged.codes (settings_of list) u solid class op id
+  Names_method class op id = NamesMethod list.name p.files codes (settings_of list) u solid class op id
 
   -- ---- classes
 
   own_class : (d : Class) → class_named w d.name ≡ Some d → d.is_imported ≡ false → IsOwnClass p d.name d
-  own_class d named own = let h = info_of_name list.name p (files_sound list files judged p is) d.name d named own
+  own_class d named own = let h = info_of_name list.name p (files_sound list codes p is.checked) d.name d named own
       in record { place = h.number; there = h.ordered; named = refl }
 
   -- ---- fields
@@ -139,7 +138,7 @@ module _ (list : ListTree) (files : List (List ℕ)) (judged : Judged) (p : Pack
       → (at : IsFieldAt id.name id.desc d f) → find_field w d.name id.name id.desc ≡ Some (member_at d at.place)
   unfolding own_field is_twice
   declared_found id d f named at =
-      let rules = rules_of list.name p (files_sound list files judged p is) d.name d named in
+      let rules = rules_of list.name p (files_sound list codes p is.checked) d.name d named in
       let m = at.member in
       let once = subst (λ v. is_twice d.fields at.place id.name v ≡ false) at.has_desc
       (subst (λ v. is_twice d.fields at.place v m.desc ≡ false) at.has_name (rules.fields at.place m at.is_member))
@@ -147,7 +146,7 @@ module _ (list : ListTree) (files : List (List ℕ)) (judged : Judged) (p : Pack
       let called : is_called id.name id.desc m ≡ true =
       and_from (bytes_eq m.name id.name) (bytes_eq m.desc id.desc) (ap (bytes_eq m.name) (sym at.has_name)
       ∙ name_is m.name) (ap (bytes_eq m.desc) (sym at.has_desc) ∙ name_is m.desc) in
-      field_found w (let o = own_ordered list files judged p is in o.acyclic) d id.name id.desc (member_at d at.place)
+      field_found w (let o = own_ordered list codes p is.checked in o.acyclic) d id.name id.desc (member_at d at.place)
       named
       (ap (option_map (λ i. member_at d i)) (first_here (λ f. is_called id.name id.desc f) d.fields at.place m
       at.is_member called once))
@@ -242,7 +241,7 @@ module _ (list : ListTree) (files : List (List ℕ)) (judged : Judged) (p : Pack
   own_cell_named told fit id n none =
       let d = n.owner in
       let at = n.at in
-      let own = static_own list.name p.files judged.codes (settings_of list) u solid id n none in
+      let own = static_own list.name p.files codes (settings_of list) u solid id n none in
       let t = declared_by d n.named own at.place at.member at.is_member in
       let x = t.tree in
       let static : is_static x.flags ≡ true = sym (ap (λ (q : Member). is_static q.flags) t.same) ∙ n.is_static in

@@ -1,4 +1,4 @@
--- The descriptors of a converted package, those of its pool and of its classes, name classes that some file has.
+-- The descriptors of a package, those of its pool and of its classes, name classes that some file has.
 use Rattle.std.proofs.Common.{◌≡◌, ⊎_elim, ℕ, sym, ap, subst, ◌∙◌, arith, Bool, true, false, List, [], ◌∷◌, ◌++◌, map}
 use Rattle.std.specs.Prelude.{Some, flat_map, slice_get, if◌then◌else◌}
 use Rattle.std.specs.Str.{bytes_eq}
@@ -10,6 +10,7 @@ use Rattle.cjc_shape_proof.proofs.CheckProofLists.{has-mapped}
 use Rattle.cjc_shape_proof.specs.LowerCheckProof.Classes.Premises.{is_known, types_known}
 use Rattle.cjc_world.specs.ClassFile.declared.tree.ClassTree.{ClassTree}
 use Rattle.cjc_world.specs.ClassFile.declared.tree.FieldTree.{FieldTree}
+use Rattle.cjc_components.specs.Bytecode.declared.method_code.MethodCode.{MethodCode}
 use Rattle.cjc_components.specs.Class.{fields_in, fields_of}
 use Rattle.cjc_components.specs.Package.{Package, pool, world}
 use Rattle.cjc_components.specs.Types.{all_descs, desc_of_field, desc_of_key, descs_of_class}
@@ -27,11 +28,10 @@ use Rattle.cjc_world.specs.Added.{added, without_initialiser}
 use Rattle.cjc_world.specs.Classes.{Class, Member, class_named, declared, method_of_class}
 use Rattle.cjc_world.specs.Order.{class_order}
 use Rattle.cjc_world.specs.Rules.{is_desc_missing}
-use Rattle.cjc_shape_proof.specs.Written.Converted.{IsConverted}
-use Rattle.cjc_shape_proof.proofs.WrittenLaws.Files.{field_descs, own_names, read_files}
+use Rattle.cjc_shape_proof.specs.Written.Checked.{IsOfFiles}
+use Rattle.cjc_shape_proof.proofs.WrittenLaws.Checked.{field_descs, own_names, read_files}
 use Rattle.cjc_theorem.proofs.AlikeLaws.MetLaws.Clean.{HasKnownTypes, own_types_known}
 use Rattle.cjc_theorem.proofs.AlikeLaws.MetLaws.Descs.{desc_known}
-use Rattle.cjc_theorem.proofs.AlikeLaws.MetLaws.LaidOut.{laid_out}
 use Rattle.cjc_theorem.proofs.AlikeLaws.MetLaws.Own.{Names_field, declared_by}
 use Rattle.cjc_theorem.proofs.AlikeLaws.MetLaws.PoolKeys.{flat_has}
 
@@ -54,8 +54,7 @@ of_field f desc h = by _ h
     by true h = ⊎_elim (λ same. same) (λ none. has_none desc none) (has_cons desc f.desc [] h)
     by false h = has_none desc h
 
-module _ (list : ListTree) (files : List (List ℕ)) (judged : Judged) (p : Package) (is : IsConverted list files judged
-    p) where
+module _ (list : ListTree) (codes : List MethodCode) (p : Package) (is : IsOfFiles list codes p) where
   abbrev w : List Class
   w = world p
 
@@ -63,81 +62,83 @@ module _ (list : ListTree) (files : List (List ℕ)) (judged : Judged) (p : Pack
   abbrev pub IsKnownDesc : List ℕ → Type 0
   IsKnownDesc desc = types_known (is_known w) desc (signature_of desc) ≡ true
 
-  abbrev laid : IsLaidOut list files judged p
-  laid = laid_out list files judged p is
-
   -- a class of the package
   module _ (n : ℕ) (t : ClassTree) (e : (let v = p.files in slice_get v.classes n ≡ Some t)) where
     kept : HasKnownTypes w n t
-    kept = let u = own_names list files judged p is in own_types_known list.name p.files u.listed u.world n t e
+    kept = let u = own_names list codes p is.checked in own_types_known list.name p.files u.listed u.world n t e
         (slice_get_within (let v = p.files in v.classes) n t e)
 
     named : class_named w t.name ≡ Some (declared n t)
-    named = let u = own_names list files judged p is in class_by_name p.files list.name u.listed u.world n t e
+    named = let u = own_names list codes p is.checked in class_by_name p.files list.name u.listed u.world n t e
 
     pub field_known : (k : ℕ) (f : FieldTree) → slice_get t.fields k ≡ Some f → IsKnownDesc f.desc
-    field_known k f g = let d = field_descs list files judged p is n k t f e g
+    field_known k f g = let d = field_descs list codes p is.checked n k t f e g
         in desc_known w f.desc d.short (kept.fields k f g)
 
     method_known : (m : Member) → Has m (let c = declared n t in c.methods) → IsKnownDesc m.desc
     method_known m h =
         let at = has-get m (let c = declared n t in c.methods) h in
         let r = mapped_at method_of_class t.methods at.0 m at.1 in
-        let short = (member_desc p.files (read_files list files judged p is) (declared n t) named at.0 m at.1).1 in
+        let short = (member_desc p.files (read_files list codes p is.checked) (declared n t) named at.0 m at.1).1 in
         desc_known w m.desc short (subst (λ (x : Member). is_desc_missing w x.desc ≡ false) r.2 (kept.methods at.0 r.0
         r.1))
 
-    got_known : (m : Member) → Has m (added w (declared n t)) → IsKnownDesc m.desc
-    got_known m h =
-        let at = has-get m (added w (declared n t)) h in
-        let read = (added_method list files judged p laid t.name (declared n t) named at.0 m at.1).0 in
-        let short = read.desc in
-        desc_known w m.desc (omega (arith, short)) (kept.got m h)
-
-    class_known : (desc : List ℕ) → Has desc (descs_of_class p (declared n t)) → IsKnownDesc desc
-    class_known desc h =
-        let c = declared n t in
-        let fields = flat_map desc_of_field (fields_of p.files c) in
-        let methods = map (λ (m : Member). m.desc) (without_initialiser c.methods) in
-        let got = map (λ (m : Member). m.desc) (added w c) in
-        ⊎_elim
-        (λ of_fields.
-        let f = flat_has desc_of_field (fields_of p.files c) desc of_fields in
-        let there = has-get f.0 (fields_of p.files c) f.1 in
-        subst IsKnownDesc (sym (of_field f.0 desc f.2)) (field_known there.0 f.0
-        (sym (ap (λ o. slice_get (fields_in o) there.0) e) ∙ there.1)))
-        (λ rest. ⊎_elim
-        (λ of_methods. let m = has-mapped (λ (x : Member). x.desc) desc (without_initialiser c.methods) of_methods
-        in subst IsKnownDesc m.2 (method_known m.0 (without_has c.methods m.0 m.1)))
-        (λ of_got. let m = has-mapped (λ (x : Member). x.desc) desc (added w c) of_got
-        in subst IsKnownDesc m.2 (got_known m.0 m.1))
-        (has-either desc methods got rest))
-        (has-either desc fields (methods ++ got) h)
-
   -- the descriptor of a field of the package that code names
-  pub field_desc : (id : MemberId) (static : Bool) (n : Names_field list files judged p is id static)
+  pub field_desc : (id : MemberId) (static : Bool) (n : Names_field list codes p is id static)
       → (let d = n.owner in d.is_imported) ≡ false → IsKnownDesc id.desc
   field_desc id static n own =
       let d = n.owner in
       let at = n.at in
-      let t = declared_by list files judged p is d n.named own at.place at.member at.is_member in
+      let t = declared_by list codes p is d n.named own at.place at.member at.is_member in
       subst IsKnownDesc (sym (ap (λ (q : Member). q.desc) t.same) ∙ at.has_desc) (field_known d.number t.file t.is_file
       at.place t.tree t.in_file)
 
-  order_known : (c : Class) → Has c (class_order w) → (desc : List ℕ) → Has desc (descs_of_class p c) → IsKnownDesc desc
-  order_known c there desc h =
-      let t = order_filed p.files c there in
-      class_known c.number t.0 t.1 desc (subst (λ (d : Class). Has desc (descs_of_class p d)) t.2 h)
+  -- ---- the methods that abstract classes got, in a package that is laid out
 
-  -- all of them, where those of the pool do
-  pub all_known : ((k : ℕ) (key : PoolKey) → slice_get (pool p) k ≡ Some key → (desc : List ℕ)
-      → Has desc (desc_of_key key) → IsKnownDesc desc) → (k : ℕ) (desc : List ℕ) → slice_get (all_descs p) k ≡ Some desc
-      → IsKnownDesc desc
-  all_known of_keys k desc e =
-      ⊎_elim
-      (λ of_pool. let r = flat_has desc_of_key (pool p) desc of_pool in let at = has-get r.0 (pool p) r.1
-      in of_keys at.0 r.0 at.1 desc r.2)
-      (λ of_classes. let r = flat_has (descs_of_class p) (class_order w) desc of_classes
-      in order_known r.0 r.1 desc r.2)
-      (has-either desc (flat_map desc_of_key (pool p)) (flat_map (descs_of_class p) (class_order w))
-      (get-has desc (all_descs p) k e))
+  module _ (files : List (List ℕ)) (judged : Judged) (laid : IsLaidOut list files judged p) where
+    module _ (n : ℕ) (t : ClassTree) (e : (let v = p.files in slice_get v.classes n ≡ Some t)) where
+      got_known : (m : Member) → Has m (added w (declared n t)) → IsKnownDesc m.desc
+      got_known m h =
+          let at = has-get m (added w (declared n t)) h in
+          let read = (added_method list files judged p laid t.name (declared n t) (named n t e) at.0 m at.1).0 in
+          let short = read.desc in
+          desc_known w m.desc (omega (arith, short)) ((kept n t e).got m h)
+
+      class_known : (desc : List ℕ) → Has desc (descs_of_class p (declared n t)) → IsKnownDesc desc
+      class_known desc h =
+          let c = declared n t in
+          let fields = flat_map desc_of_field (fields_of p.files c) in
+          let methods = map (λ (m : Member). m.desc) (without_initialiser c.methods) in
+          let got = map (λ (m : Member). m.desc) (added w c) in
+          ⊎_elim
+          (λ of_fields.
+          let f = flat_has desc_of_field (fields_of p.files c) desc of_fields in
+          let there = has-get f.0 (fields_of p.files c) f.1 in
+          subst IsKnownDesc (sym (of_field f.0 desc f.2)) (field_known n t e there.0 f.0
+          (sym (ap (λ o. slice_get (fields_in o) there.0) e) ∙ there.1)))
+          (λ rest. ⊎_elim
+          (λ of_methods. let m = has-mapped (λ (x : Member). x.desc) desc (without_initialiser c.methods) of_methods
+          in subst IsKnownDesc m.2 (method_known n t e m.0 (without_has c.methods m.0 m.1)))
+          (λ of_got. let m = has-mapped (λ (x : Member). x.desc) desc (added w c) of_got
+          in subst IsKnownDesc m.2 (got_known m.0 m.1))
+          (has-either desc methods got rest))
+          (has-either desc fields (methods ++ got) h)
+
+    order_known : (c : Class) → Has c (class_order w) → (desc : List ℕ) → Has desc (descs_of_class p c)
+        → IsKnownDesc desc
+    order_known c there desc h =
+        let t = order_filed p.files c there in
+        class_known c.number t.0 t.1 desc (subst (λ (d : Class). Has desc (descs_of_class p d)) t.2 h)
+
+    -- all of them, where those of the pool do
+    pub all_known : ((k : ℕ) (key : PoolKey) → slice_get (pool p) k ≡ Some key → (desc : List ℕ)
+        → Has desc (desc_of_key key) → IsKnownDesc desc) → (k : ℕ) (desc : List ℕ) → slice_get (all_descs p) k
+        ≡ Some desc → IsKnownDesc desc
+    all_known of_keys k desc e =
+        ⊎_elim
+        (λ of_pool. let r = flat_has desc_of_key (pool p) desc of_pool in let at = has-get r.0 (pool p) r.1
+        in of_keys at.0 r.0 at.1 desc r.2)
+        (λ of_classes. let r = flat_has (descs_of_class p) (class_order w) desc of_classes
+        in order_known r.0 r.1 desc r.2)
+        (has-either desc (flat_map desc_of_key (pool p)) (flat_map (descs_of_class p) (class_order w))
+        (get-has desc (all_descs p) k e))

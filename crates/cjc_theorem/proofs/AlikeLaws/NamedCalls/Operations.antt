@@ -1,5 +1,5 @@
 -- Which instructions of narrow code make calls.
-use Rattle.std.proofs.Common.{◌≡◌, ℕ, zero, suc, refl, ap, true, List, [], ◌∷◌}
+use Rattle.std.proofs.Common.{◌≡◌, ℕ, zero, suc, ap, true, List, []}
 use Rattle.std.specs.Prelude.{Option, Some, None, slice_get, ℤ}
 use Rattle.cjc_token_proof.specs.CardSemantics.Bytecode.Effects.{Call}
 use Rattle.cjc_token_proof.specs.CardSemantics.Bytecode.Meanings.{Asks, Branches, Calls, Casts, Meaning, Paired, Plain}

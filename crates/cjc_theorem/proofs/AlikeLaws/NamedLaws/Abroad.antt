@@ -170,12 +170,12 @@ module _ (list : List ℕ) (p : Package) (sound : IsSound list p.files) where
             ∙ ap (λ (v : Member). is_unbound z.0.flags z.0.name && (z.0.token == v.token)) y.2 ∙ none);
       }
 
-  -- so it is the first that its token means, with its name and its descriptor
+  -- so it is the first that its token means, with its name, its descriptor and its flags
   pub first_listed : (m : MemberId) (c : Class) (f : Found) → class_named w m.class ≡ Some c → c.is_imported ≡ true
       → is_interface c.flags ≡ false → (h : HasEntry p c) (at : IsAt false m.name m.desc c f)
       → is_initialiser m.name ≡ false → is_unbound (let k = at.member in k.flags) (let k = at.member in k.name) ≡ true
       → (x : ExportMethod) × (let e = h.entry in unbound_of e.methods (member_token p (Some f)) ≡ Some x)
-      × (x.name ≡ m.name) × (x.desc ≡ m.desc)
+      × (x.name ≡ m.name) × (x.desc ≡ m.desc) × (x.flags ≡ (let k = at.member in k.flags))
   first_listed m c f known import plain h at named bound =
       let is = is_listed m c f (filed p.files m.class c known) import plain at named bound in
       let k = at.member in
@@ -192,6 +192,7 @@ module _ (list : List ℕ) (p : Package) (sound : IsSound list p.files) where
         ap (unbound_of e.methods) (is.token ∙ sym same) ∙ first_one,
         ap (λ (v : Member). v.name) (sym x.2) ∙ at.has_name,
         ap (λ (v : Member). v.desc) (sym x.2) ∙ at.has_desc,
+        ap (λ (v : Member). v.flags) (sym x.2),
       )
 
   pub fixed_abroad : (on : Bool) (m : MemberId) (c : Class) (f : Found) → class_named w m.class ≡ Some c

@@ -1,6 +1,6 @@
 -- What code calls by a class that declares it is a method that calls can name: a static method, a constructor or a
 -- private one.
-use Rattle.std.proofs.Common.{◌≡◌, ℕ, refl, sym, ap, subst, Bool, true, false, List}
+use Rattle.std.proofs.Common.{◌≡◌, refl, sym, ap, subst, Bool, true, false, List}
 use Rattle.std.specs.Prelude.{◌||◌}
 use Rattle.cjc_bytes.specs.AccessFlags.{is_private, is_static}
 use Rattle.cjc_bytes.specs.declared.fault.MemberId.{MemberId}

@@ -3,8 +3,7 @@ use Rattle.std.proofs.Common.{◌≡◌, ℕ, ◌-◌, refl, sym, ap, ◌∙◌,
 use Rattle.std.specs.Prelude.{not, ◌&&◌, ◌||◌, Option, Some, None, is_some, option_and_then, option_map, slice_get}
 use Rattle.std.specs.Prelude.{if◌then◌else◌, ℤ}
 use Rattle.std.specs.List.{flat_map}
-use Rattle.cjc_shape_proof.proofs.WrittenLaws.Insns.{call_fits, op_fit, op_there}
-use Rattle.cjc_shape_proof.specs.Written.Checked.{KeepsNames}
+use Rattle.cjc_narrow_proof.proofs.LawsLaws.Calls.{call_fits}
 use Rattle.cjc_bytes.specs.AccessFlags.{is_static}
 use Rattle.cjc_bytes.specs.declared.fault.MemberId.{MemberId}
 use Rattle.cjc_bytes.specs.declared.settings.Settings.{Settings}
@@ -23,8 +22,8 @@ use Rattle.cjc_world.specs.ExportFile.declared.tree.ExportTree.{ExportTree}
 use Rattle.cjc_token_proof.specs.Narrow.Rows.Resolved.{by_owner, constant_named, resolved_field, resolved_method}
 use Rattle.cjc_shape_proof.proofs.FindsLaws.Fields.{tested, tested_field, on_object}
 use Rattle.cjc_narrow_proof.specs.Laws.Calls.{CallFits}
-use Rattle.cjc_narrow_proof.specs.Laws.Unbroken.{IsInsnOf}
-use Rattle.cjc_narrow_proof.proofs.LawsLaws.Instructions.{field_there, method_there, static_there}
+use Rattle.cjc_narrow_proof.specs.Laws.Unbroken.{IsInsnOf, KeepsNames}
+use Rattle.cjc_narrow_proof.proofs.LawsLaws.Instructions.{field_there, method_there, op_fit, op_there, static_there}
 use Rattle.cjc_token_proof.specs.Subset.Checks.{is_imported_variable, names_variable}
 use Rattle.cjc_token_proof.specs.Subset.Members.{imported_field, imports, is_imported_constant}
 use Rattle.cjc_token_proof.specs.Subset.Members as subset

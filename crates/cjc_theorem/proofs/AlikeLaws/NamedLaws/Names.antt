@@ -8,7 +8,7 @@ use Rattle.cjc_bytes.proofs.Bools.{clash as true_not_false}
 use Rattle.cjc_jvm_semantics.specs.OnePackage.{is_constructor, is_initialiser, is_made, method_hit, object_fields}
 use Rattle.cjc_jvm_semantics.specs.OnePackage.{of_class}
 use Rattle.cjc_token_proof.proofs.WorldProofOwn.{IsAt, mapped_at}
-use Rattle.cjc_shape_proof.proofs.WrittenLaws.Insns.{cast_there, op_fit, op_there, test_there, virtual_there}
+use Rattle.cjc_narrow_proof.proofs.LawsLaws.Casts.{cast_there, test_there}
 use Rattle.cjc_shape_proof.specs.WorldProof.Calls.Solid.{IsSolid}
 use Rattle.cjc_token_proof.specs.CardSemantics.Machine.Operations.{static_cell}
 use Rattle.cjc_world.specs.ClassFile.declared.tree.ClassTree.{ClassTree}
@@ -29,8 +29,8 @@ use Rattle.cjc_token_proof.specs.Narrow.Rows.Resolved.{method_found, resolution,
 use Rattle.cjc_token_proof.specs.Narrow.Rows.Resolved.{special_by}
 use Rattle.cjc_token_proof.specs.Narrow.Rows.Resolved.{virtual_by}
 use Rattle.cjc_token_proof.specs.Narrow.Rows.Selected.{near_fields}
-use Rattle.cjc_narrow_proof.specs.Laws.Unbroken.{IsInsnOf}
-use Rattle.cjc_narrow_proof.proofs.LawsLaws.Instructions.{array_of_class, new_fields}
+use Rattle.cjc_narrow_proof.specs.Laws.Unbroken.{IsInsnOf, KeepsNames}
+use Rattle.cjc_narrow_proof.proofs.LawsLaws.Instructions.{array_of_class, new_fields, op_fit, op_there, virtual_there}
 use Rattle.cjc_narrow_proof.specs.Runs.Types as types
 use Rattle.cjc_narrow_proof.specs.Runs.Types.{IsThere}
 use Rattle.cjc_ncode.specs.declared.narrow.NInsn.{NInsn}
@@ -48,7 +48,7 @@ use Rattle.cjc_world.specs.Access.{is_accessible}
 use Rattle.cjc_world.specs.Classes.{Class, Member, class_named, declared, method_of_export}
 use Rattle.cjc_world.specs.Rules.{is_interface_of}
 use Rattle.cjc_world.proofs.Cycles.{class_named-name}
-use Rattle.cjc_shape_proof.specs.Written.Checked.{IsOfFiles, KeepsNames}
+use Rattle.cjc_shape_proof.specs.Written.Checked.{IsOfFiles}
 use Rattle.cjc_shape_proof.proofs.WrittenLaws.Checked.{are_spelt, files_sound, own_names, read_files}
 use Rattle.cjc_shape_proof.proofs.WrittenLaws.Checked.{own_solid}
 use Rattle.cjc_theorem.specs.Alike.Opcodes.{CallsHaveOpcodes}

@@ -17,7 +17,7 @@ use Rattle.cjc_shape_proof.specs.LowerJudge.Rules.{settings_of}
 use Rattle.cjc_token_proof.specs.List.Listed.{ListTree}
 use Rattle.cjc_theorem.proofs.AlikeLaws.NamedLaws.Names.{Calls_method, called, virtual_class, virtual_owner}
 use Rattle.cjc_token_proof.specs.Narrow.Rows.Resolved.{resolved_method, virtual_by}
-use Rattle.cjc_narrow_proof.specs.Laws.Unbroken.{IsInsnOf}
+use Rattle.cjc_narrow_proof.specs.Laws.Unbroken.{IsInsnOf, KeepsNames}
 use Rattle.cjc_ncode.specs.ByLabel.{OnObject}
 use Rattle.cjc_vtable.specs.Meant.{AskedHaveTokens}
 use Rattle.cjc_tokens.specs.Lines.{line_of}
@@ -40,7 +40,7 @@ use Rattle.cjc_world.specs.Subtype.{is_subtype}
 use Rattle.cjc_token_proof.specs.WrittenCalls.Calls.{IsNamed, IsSought, got, hidden, on_object}
 use Rattle.cjc_shape_proof.proofs.WrittenLaws.Checked.{own_names, read_files}
 use Rattle.cjc_shape_proof.proofs.WrittenLaws.Checked.{own_solid, own_subtypes}
-use Rattle.cjc_shape_proof.specs.Written.Checked.{IsOfFiles, KeepsNames}
+use Rattle.cjc_shape_proof.specs.Written.Checked.{IsOfFiles}
 use Rattle.cjc_theorem.proofs.AlikeLaws.VirtualCalls.Chosen.{first_found, own_any}
 use Rattle.cjc_theorem.proofs.AlikeLaws.VirtualCalls.Found.{called_signature, none_on_line, stands_there}
 use Rattle.cjc_theorem.proofs.AlikeLaws.VirtualCalls.MethodKinds.{keeps_kinds}

@@ -18,7 +18,7 @@ use Rattle.cjc_shape_proof.specs.LowerJudge.Rules.{settings_of}
 use Rattle.cjc_token_proof.specs.List.Listed.{ListTree}
 use Rattle.cjc_theorem.proofs.AlikeLaws.NamedLaws.Names.{Calls_method, called}
 use Rattle.cjc_token_proof.specs.Narrow.Rows.Resolved.{method_found}
-use Rattle.cjc_narrow_proof.specs.Laws.Unbroken.{IsInsnOf}
+use Rattle.cjc_narrow_proof.specs.Laws.Unbroken.{IsInsnOf, KeepsNames}
 use Rattle.cjc_narrow_proof.proofs.LawsLaws.Own.{class_by_name, first_here, own_kept}
 use Rattle.cjc_ncode.specs.ByLabel.{OnSuper}
 use Rattle.cjc_token_proof.specs.Subset.Members as subset
@@ -51,7 +51,7 @@ use Rattle.cjc_world.proofs.Upwards.{line_goes_up}
 use Rattle.cjc_token_proof.specs.WrittenCalls.Calls.{IsNamed, on_super}
 use Rattle.cjc_shape_proof.proofs.WrittenLaws.Checked.{own_names, read_files}
 use Rattle.cjc_shape_proof.proofs.WrittenLaws.Checked.{own_solid, own_subtypes}
-use Rattle.cjc_shape_proof.specs.Written.Checked.{IsOfFiles, KeepsNames}
+use Rattle.cjc_shape_proof.specs.Written.Checked.{IsOfFiles}
 use Rattle.cjc_theorem.proofs.AlikeLaws.VirtualCalls.Chosen.{IsFirstOf, any_selects, first_found, has_methods}
 use Rattle.cjc_theorem.proofs.AlikeLaws.VirtualCalls.Chosen.{placed as place_of}
 use Rattle.cjc_theorem.proofs.AlikeLaws.VirtualCalls.Found.{stands_there}

@@ -1,5 +1,5 @@
 -- The words that a virtual call takes, by the descriptor of the method that it finds.
-use Rattle.std.proofs.Common.{◌≡◌, ℕ, refl, sym, ap, ◌∙◌, Bool, true, false, List, map}
+use Rattle.std.proofs.Common.{◌≡◌, refl, sym, ap, ◌∙◌, Bool, true, false, List, map}
 use Rattle.std.specs.Prelude.{◌&&◌, Option, Some, None, if◌then◌else◌}
 use Rattle.cjc_bytes.specs.AccessFlags.{is_private}
 use Rattle.cjc_bytes.specs.declared.fault.MemberId.{MemberId}

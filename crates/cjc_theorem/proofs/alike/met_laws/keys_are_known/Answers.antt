@@ -3,5 +3,5 @@ use Rattle.cjc_theorem.proofs.AlikeLaws.MetLaws.There.{key_known}
 use Rattle.cjc_theorem.proofs.alike.met_laws.keys_are_known.Goals as goal
 
 pub returns : goal.returns
-returns c = λ list files judged p is k key e. key_known list files judged p is key (key_met list files judged p is
-    (c.calls_have_opcodes.ensures list files judged is.sound) k key e)
+returns c = λ list codes p is k key e. key_known list codes p is key (key_met list codes p is
+    (c.calls_of_files_have_opcodes.ensures list codes p is.checked) k key e)
