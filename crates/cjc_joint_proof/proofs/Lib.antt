@@ -38,3 +38,4 @@ pub mod OutwardLaws
 pub mod SharedLaws
 pub mod ReachLaws
 pub mod NamedLaws
+pub mod ClimbLaws

@@ -208,8 +208,9 @@ module _ (packages : List Package) (linked : AreLinked packages) (p : Package) (
       → is_interface d.flags ≡ false → (i : ℕ) (member : Member) → slice_get d.methods i ≡ Some member
       → is_exposed member.flags ≡ true → slice_get (open_methods d (length d.fields) d.methods)
       (member_token p (Some f)) ≡ Some (member_at d (length d.fields + i)) → member.name ≡ id.name
-      → member.desc ≡ id.desc → is_initialiser id.name ≡ false → NamesSharedMethod packages p id
-  shared_at r e there written begins d at is kind i member in_it shown listed name desc plain =
+      → member.desc ≡ id.desc → is_initialiser id.name ≡ false → ((hit : ResolvedMember)
+      → method_hit (world p) f ≡ Some hit → hit.flags ≡ member.flags) → NamesSharedMethod packages p id
+  shared_at r e there written begins d at is kind i member in_it shown listed name desc plain flags =
       shared own_c.number own_c.tree own_c.is_tree own_c.is
     where
       x : ExportClass
@@ -266,6 +267,7 @@ module _ (packages : List Package) (linked : AreLinked packages) (p : Package) (
                 q.flags) (λ (q : Member). is_called id.name id.desc q) k.methods i member s.3 shown called once);
             met_hit = record { owner = k; flags = member.flags };
             is_met_hit = hit_is (world e) k i member (at-number e.files t.name k its) s.3;
+            same_flags = flags (hit_of p acyclic id c known f own) (hit_here p acyclic id c known f own);
             method = method_of sound.list e sound.sound begins n t file its i member s.3;
             is_method = method_here sound.list e sound.sound begins n t file its i member s.3;
             listed = ap (option_and_then (λ (v : ExportedClass). slice_get v.methods (member_token p (Some f))))
@@ -281,3 +283,4 @@ module _ (packages : List Package) (linked : AreLinked packages) (p : Package) (
       → is_initialiser id.name ≡ false → NamesSharedMethod packages p id
   names_shared r e there written begins x plain = shared_at r e there written begins x.class x.exported x.is
       x.no_interface x.place x.member x.there x.shown x.by_token x.name_is x.desc_is plain
+      x.same_flags

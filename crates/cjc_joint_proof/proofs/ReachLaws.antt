@@ -47,14 +47,14 @@ module _ (packages : List Package) (linked : AreLinked packages) (acyclic : IsAc
     abbrev m : InPackage ByLabel.Callee
     m = of_package q (ByLabel.Fixed on id)
 
-    pub fixed_words : NamesFixed packages p id → TakesAlone p on id → (n : ℕ) → calls.words m ≡ Some n
+    pub fixed_words : NamesFixed packages p on id → TakesAlone p on id → (n : ℕ) → calls.words m ≡ Some n
         → words l (callee_at g m) ≡ Some n
     fixed_words (of_own c among) alone n e = own_calls_take packages linked at stand q p here id c on alone n e
     fixed_words (of_outside c) alone n e = outside_words packages linked at q p here id c on alone n e
     fixed_words (of_shared c among takes) alone n e = shared_words packages linked acyclic at stand q p here id c on
-        (takes on) n e
+        takes n e
 
-    pub fixed_reach : NamesFixed packages p id → (o : Option (Shape (List ℕ))) (r : Reached (InPackage Placed))
+    pub fixed_reach : NamesFixed packages p on id → (o : Option (Shape (List ℕ))) (r : Reached (InPackage Placed))
         → calls.reached m o ≡ r → IsFound r
         → reached l (callee_at g m) (option_as (shape_as (class_together packages)) o)
         ≡ reached_as (code_at g) (offset_at g) r
@@ -63,7 +63,7 @@ module _ (packages : List Package) (linked : AreLinked packages) (acyclic : IsAc
     fixed_reach (of_shared c among takes) o r e found = shared_reach packages linked acyclic at stand q p here id c on o
         r e found
 
-    pub fixed_stand : NamesFixed packages p id → (o : Option (Shape (List ℕ))) (start : Start (InPackage Placed))
+    pub fixed_stand : NamesFixed packages p on id → (o : Option (Shape (List ℕ))) (start : Start (InPackage Placed))
         → calls.reached m o ≡ Within start → IsOfGroup l (methods_together packages) start.code
     fixed_stand (of_own c among) o start e = own_calls_stand packages linked at stand q p here id c among on o start e
     fixed_stand (of_outside c) o start e =
@@ -79,7 +79,7 @@ module _ (packages : List Package) (linked : AreLinked packages) (acyclic : IsAc
     where
       -- the package of a call is there
       module _ {X : Type 0} (q : ℕ) (on : Bool) (id : MemberId)
-          (then' : (p : Package) → slice_get packages q ≡ Some p → NamesFixed packages p id → TakesAlone p on id → X) where
+          (then' : (p : Package) → slice_get packages q ≡ Some p → NamesFixed packages p on id → TakesAlone p on id → X) where
         asked : called_together packages (of_package q (ByLabel.Fixed on id)) ≡ true → X
         asked called = by (slice_get packages q) refl called
           where

@@ -126,6 +126,7 @@ pub record NamesSharedMethod (packages : List Package) (p : Package) (id : Membe
   pub exposed : own_where is_exposed id.name id.desc (declared number tree) ≡ Some met
   pub met_hit : ResolvedMember
   pub is_met_hit : method_hit (world exporter) met ≡ Some met_hit
+  pub same_flags : hit.flags ≡ met_hit.flags
   pub method : Method
   pub is_method : method_at exporter.files met ≡ Some method
   pub listed : (let e = entry.entry in option_and_then (λ (x : ExportedClass). slice_get x.methods (member_token p (Some

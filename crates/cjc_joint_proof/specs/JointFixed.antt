@@ -20,6 +20,7 @@ use Rattle.cjc_link_semantics.specs.Components.Exports.{exported_classes, open_m
 use Rattle.cjc_link_semantics.specs.Components.Names.{member_token}
 use Rattle.cjc_link_semantics.specs.Components.Package.{Package, world}
 use Rattle.cjc_link_semantics.specs.JvmSemantics.Group.{is_exposed}
+use Rattle.cjc_link_semantics.specs.JvmSemantics.OnePackage.{ResolvedMember, method_hit}
 use Rattle.cjc_token_proof.specs.NCode.ByLabel as ByLabel
 use Rattle.cjc_token_proof.specs.NCode.Lowering.Agreement.{Cells, IsAmong, Memories}
 use Rattle.cjc_token_proof.specs.NCode.Lowering.Naming.{callee}
@@ -36,19 +37,19 @@ abbrev pub TakesAlone : Package → (on : Bool) → MemberId → Type 0
 TakesAlone p on id = (n : ℕ) → words p.files (world p) (ByLabel.Fixed on id) ≡ Some n
     → Calls.words (loaded p) (callee (naming p) (ByLabel.Fixed on id)) ≡ Some n
 
--- A method that the package names: one of its own class files, one of a class from outside, or one of another package
--- of the group, which takes its words there. What has code stands in Method.
-pub data NamesFixed (packages : List Package) (p : Package) (id : MemberId) : Type 0 where
-  of_own : (c : NamesOwnMethod p id) → IsAmong (placed_methods p) (place p c.method) → NamesFixed packages p id
-  of_outside : NamesOutsideMethod packages p id → NamesFixed packages p id
+-- A method that the package names, with or without a receiver: one of its own class files, one of a class from outside,
+-- or one of another package of the group, which takes its words there. What has code stands in Method.
+pub data NamesFixed (packages : List Package) (p : Package) (on : Bool) (id : MemberId) : Type 0 where
+  of_own : (c : NamesOwnMethod p id) → IsAmong (placed_methods p) (place p c.method) → NamesFixed packages p on id
+  of_outside : NamesOutsideMethod packages p id → NamesFixed packages p on id
   of_shared : (c : NamesSharedMethod packages p id) → IsAmong (placed_methods c.exporter) (place c.exporter c.method)
-      → ((on : Bool) (n : ℕ) → words_where on id (Some c.met_hit) ≡ Some n
+      → ((n : ℕ) → words_where on id (Some c.met_hit) ≡ Some n
       → Calls.words (loaded c.exporter) (Fixed on 0 (method_offset c.exporter c.met)) ≡ Some n)
-      → NamesFixed packages p id
+      → NamesFixed packages p on id
 
 -- A static method or constructor that a package finds in a class which it imports from another package of the group:
 -- the class is one that this package exports, and declares it as a public or protected method of the same name and
--- descriptor, which Export has under the token that the importing package uses.
+-- descriptor with the flags that the importing package finds, which Export has under the token that it uses.
 pub record ExportsMethod (p e : Package) (entry : ExportClass) (id : MemberId) (f : Found) : Type 0 where
   pub class : Class
   pub exported : slice_get (exported_classes e) entry.token ≡ Some class
@@ -62,11 +63,12 @@ pub record ExportsMethod (p e : Package) (entry : ExportClass) (id : MemberId) (
       ≡ Some (member_at class (length class.fields + place))
   pub name_is : member.name ≡ id.name
   pub desc_is : member.desc ≡ id.desc
+  pub same_flags : (hit : ResolvedMember) → method_hit (world p) f ≡ Some hit → hit.flags ≡ member.flags
 
 -- So it is with each that the code of a package calls.
 abbrev pub AreFixedNamed : List Package → Type 0
 AreFixedNamed packages = (q : ℕ) (p : Package) → slice_get packages q ≡ Some p → (on : Bool) (id : MemberId)
-    → is_called p (ByLabel.Fixed on id) ≡ true → NamesFixed packages p id × TakesAlone p on id
+    → is_called p (ByLabel.Fixed on id) ≡ true → NamesFixed packages p on id × TakesAlone p on id
 
 -- a call that is selected by its receiver
 abbrev pub IsSelecting : ByLabel.Callee → Type 0

@@ -17,3 +17,4 @@ pub mod Worlds
 pub mod JointTables
 pub mod JointCalled
 pub mod JointFixed
+pub mod JointTowers

@@ -1,13 +1,17 @@
 -- Packages that were tested and break no rule, as members of a group.
-use Rattle.std.specs.Prelude.{◌≡◌, ◌+◌, ℕ, List, Some, false, length, slice_get, true}
-use Rattle.cjc_bytes.specs.AccessFlags.{is_private}
+use Rattle.std.specs.Prelude.{◌≡◌, ◌⊎◌, ◌+◌, ◌<◌, ℕ, List, Option, Some, false, length, slice_get, true}
+use Rattle.cjc_bytes.specs.AccessFlags.{is_interface, is_private}
 use Rattle.cjc_bytes.specs.declared.settings.Settings.{Settings}
 use Rattle.cjc_bytes.specs.declared.fault.MemberId.{MemberId}
 use Rattle.cjc_components.specs.Bytecode.declared.insn.JInsn.{JInsn}
 use Rattle.cjc_components.specs.Bytecode.declared.insn.JOp.{JOp}
 use Rattle.cjc_components.specs.Bytecode.declared.method_code.MethodCode.{MethodCode}
+use Rattle.cjc_components.specs.ExportFile.{export_of}
+use Rattle.cjc_components.specs.Package.{Package}
 use Rattle.cjc_vtable.specs.Fixpoint.Tables.{HasRow}
-use Rattle.cjc_world.specs.Classes.{Class, Member as WorldMember}
+use Rattle.cjc_vtable.specs.Kept.{ExportsAgree}
+use Rattle.cjc_world.specs.ClassFile.declared.tree.ClassTree.{ClassTree}
+use Rattle.cjc_world.specs.Classes.{Class, Member as WorldMember, all_classes}
 use Rattle.cjc_world.specs.ExportFile.Members.{is_unbound}
 use Rattle.cjc_world.specs.Files.{Files}
 use Rattle.cjc_world.specs.Lookup.{member_at}
@@ -20,60 +24,107 @@ use Rattle.cjc_token_proof.specs.Subset.Members.{imports}
 use Rattle.cjc_token_proof.specs.Types.declared.cell.Cell.{Cell}
 use Rattle.cjc_token_proof.specs.Types.declared.state.State.{State}
 use Rattle.cjc_token_proof.specs.Types.Search.{cells_of}
-use Rattle.cjc_jvm_semantics.specs.Linked.{Method}
-use Rattle.cjc_jvm_semantics.specs.Group.{joint_image}
+use Rattle.cjc_jvm_semantics.specs.Linked.{Callee, Method}
+use Rattle.cjc_jvm_semantics.specs.Group.{is_package_visible, joint_exports, joint_image}
+use Rattle.cjc_jvm_semantics.specs.OnePackage.{ResolvedMember}
+use Rattle.cjc_narrow_proof.specs.Runs.Calls.{Chooses, above_holder, by_interface, itself, on_class}
 use Rattle.cjc_narrow_proof.specs.Runs.Converted.{IsFirst}
-use Rattle.cjc_narrow_proof.specs.Runs.Names.{IsNamed, a_call_on_receiver, a_static_call}
+use Rattle.cjc_narrow_proof.specs.Runs.Names.{IsNamed, a_call_on_receiver}
 use Rattle.cjc_narrow_proof.specs.Runs.Tables.{Tables, look_ups}
 use Rattle.cjc_shape_proof.specs.Whole.{IsWhole}
+use Rattle.cjc_shape_proof.specs.Written.Converted.{ExportsArePlain}
+use Rattle.cjc_shape_proof.specs.Written.Entries.{UnboundAreOwn}
 use Rattle.cjc_joint_proof.specs.Images.{TellOwnFields}
-use Rattle.cjc_joint_proof.specs.Imports.{AreImports}
 use Rattle.cjc_joint_proof.specs.Sound.{AreSound}
 use Rattle.cjc_joint_proof.specs.Worlds.{AreApartFromOutside}
 use Rattle.cjc_joint_theorem.specs.Members.{Member, files_of, homes_of, images_of, member_of, tables_of}
-use Rattle.cjc_joint_theorem.specs.Ordered.{IsOutsideOrdered, TellsKinds}
+use Rattle.cjc_joint_theorem.specs.Ordered.{IsOutsideOrdered}
 use Rattle.cjc_joint_theorem.specs.Together.Names.{IsNamedIn}
+use Rattle.cjc_joint_whole.specs.Entries.{MeantAreListed}
 
--- A package of read files that was tested and breaks no rule, over sound export files which list no private method,
--- with its tables; what its static image says is of sound types.
+-- A package of read files that was tested and breaks no rule, over sound export files which don't contradict one another
+-- and list no private method, and of interfaces no static one, with its tables; what its static image says is of sound
+-- types.
 pub record IsWholeMember (p : Member) : Type 0 where
   pub list : List ℕ
   pub codes : List MethodCode
   pub settings : Settings
   pub whole : IsWhole list p.files codes settings p.tables
   pub first : IsFirst (look_ups p.files p.image p.near p.tables) p.files p.image
+  pub plain : ExportsArePlain p.files
+  pub agree : ExportsAgree (all_classes p.files)
   pub no_private : (k i : ℕ) (e : ExportClass) (m : ExportMethod)
       → (let f = p.files in slice_get (imports f.exports) k ≡ Some e) → slice_get e.methods i ≡ Some m
       → is_private m.flags ≡ false
 
--- Such packages, whose names differ, and which import export files of packages before them and from outside: these say
--- of classes of what kind they are, and from outside list what is of its kind. Their images tell fields of their own
--- classes.
+-- The export file is the one that is written for a package of these files. The static methods and constructors that it
+-- lists are those that the classes of the package declare, and it lists the public and protected virtual ones.
+pub record IsWrittenFor (files : Files) (t : ExportTree) : Type 0 where
+  pub exporter : Package
+  pub same_files : exporter.files ≡ files
+  pub is : t ≡ export_of exporter
+  pub unbound : UnboundAreOwn exporter
+  pub meant : MeantAreListed exporter
+
+-- An export file that the package at a place imports: the one that is written for a package before it, or one from
+-- outside.
+pub data IsExport (members : List Member) (q : ℕ) (t : ExportTree) : Type 0 where
+  of_member : (j : ℕ) (m : Member) → j < q → slice_get members j ≡ Some m → IsWrittenFor m.files t
+      → IsExport members q t
+  from_outside : (n : ℕ) → slice_get (joint_exports (files_of members)) n ≡ Some t → IsExport members q t
+
+-- Such packages, whose names differ, and which import what is written for packages before them, and export files from
+-- outside, whose classes list what is of its kind. Their images tell fields of their own classes.
 pub record AreWhole (members : List Member) : Type 0 where
   pub each : (q : ℕ) (p : Member) → slice_get members q ≡ Some p → IsWholeMember p
   pub sound : AreSound (files_of members)
   pub outside : AreApartFromOutside (files_of members)
-  pub imports : AreImports (files_of members)
-  pub kinds : (q j k : ℕ) (p m : Files) (t : ExportTree) → slice_get (files_of members) q ≡ Some p
-      → slice_get p.exports k ≡ Some t → slice_get (files_of members) j ≡ Some m → TellsKinds m t
+  pub written : (q k : ℕ) (p : Member) (t : ExportTree) → slice_get members q ≡ Some p
+      → (let f = p.files in slice_get f.exports k ≡ Some t) → IsExport members q t
   pub order : IsOutsideOrdered (files_of members)
   pub told : TellOwnFields (files_of members) (images_of members)
 
 -- ---- what is left to show of names in code
 
-module _ {files : Files} {image : StaticImage} {near : List MemberId} {tables : Tables} {m : Method}
-    {stack : List Cell} where
-  -- A method is called.
-  abbrev pub IsCall : {op : JOp} → IsNamed files image near tables m stack op → Type 0
-  IsCall (a_static_call h) = Unit {0}
-  IsCall (a_call_on_receiver h) = Unit {0}
-  IsCall other = ⊥
+-- A class that a package imports, of another package of the group.
+pub record IsOfMember (members : List Member) (c : Class) : Type 0 where
+  pub imported_one : c.is_imported ≡ true
+  pub part : ℕ
+  pub member : Member
+  pub at : slice_get members part ≡ Some member
+  pub number : ℕ
+  pub class : ClassTree
+  pub file : (let f = member.files in slice_get f.classes number ≡ Some class)
+  pub same_name : class.name ≡ c.name
 
--- the methods that reached instructions call stand for what the joint world has
-abbrev pub CallsStand : List Member → Type 0
-CallsStand members = (p : Member) (m : Method) → member_of members m ≡ Some p → (at : ℕ) (i : JInsn) (t : State)
+-- A virtual method that is package-visible, or found in an interface, or in a class of another package of the group.
+abbrev pub IsLeftVirtual : List Member → ResolvedMember → Type 0
+IsLeftVirtual members hit = let c = hit.owner in (is_package_visible hit.flags ≡ true)
+    ⊎ ((is_interface c.flags ≡ true) ⊎ IsOfMember members c)
+
+module _ (members : List Member) {files : Files} {holder : List ℕ} {id : MemberId} {place : Found}
+    {hit : ResolvedMember} where
+  -- What is called is selected by invokevirtual and such a method, or above the class that holds the code, or by
+  -- invokeinterface: it is neither a constructor nor private.
+  abbrev pub IsSelecting : {op : ℕ} {class : List ℕ} {choice : List ℕ → Option Callee}
+      → Chooses files holder id place hit op class choice → Type 0
+  IsSelecting (on_class plain wanted) = IsLeftVirtual members hit
+  IsSelecting (itself on special) = ⊥
+  IsSelecting (above_holder callee on plain is) = Unit {0}
+  IsSelecting (by_interface plain wanted) = Unit {0}
+
+module _ (members : List Member) {files : Files} {image : StaticImage} {near : List MemberId} {tables : Tables}
+    {m : Method} {stack : List Cell} where
+  -- a method is called that is selected so
+  abbrev pub IsSelectingCall : {op : JOp} → IsNamed files image near tables m stack op → Type 0
+  IsSelectingCall (a_call_on_receiver h) = IsSelecting members h.form
+  IsSelectingCall other = ⊥
+
+-- the methods that reached instructions select so stand for what the joint world has
+abbrev pub SelectionsStand : List Member → Type 0
+SelectionsStand members = (p : Member) (m : Method) → member_of members m ≡ Some p → (at : ℕ) (i : JInsn) (t : State)
     → slice_get m.insns at ≡ Some i → HasRow (let s = p.tables in s.types m) at t
-    → (h : IsNamed p.files p.image p.near p.tables m (cells_of t.stack) i.op) → IsCall h
+    → (h : IsNamed p.files p.image p.near p.tables m (cells_of t.stack) i.op) → IsSelectingCall members h
     → IsNamedIn (files_of members) (joint_image (images_of members)) (homes_of members) (tables_of members) m
     (cells_of t.stack) i.op
 

@@ -42,12 +42,14 @@ use Rattle.cjc_joint_theorem.specs.Together.Names.{IsFieldIn}
 use Rattle.cjc_joint_theorem.proofs.MembersLaws.Worlds.{files_at}
 use Rattle.cjc_joint_theorem.proofs.OrderedLaws.Fields.{no_array, not_abroad, objects_have}
 use Rattle.cjc_joint_whole.specs.Whole.{AreWhole}
+use Rattle.cjc_joint_whole.proofs.WholeLaws.Imports.{imports_told}
 use Rattle.cjc_joint_whole.proofs.WholeLaws.Known.{IsKnown}
-use Rattle.cjc_joint_whole.proofs.WholeLaws.Members.{ordered_together, plain_together, solid_at, supers_together}
+use Rattle.cjc_joint_whole.proofs.WholeLaws.Members.{ordered_together, plain_together, supers_together}
+use Rattle.cjc_joint_whole.proofs.WholeLaws.Solid.{solid_at}
 
 -- ---- types
 
-all_below : (P Q : List ℕ → Bool) → ((x : List ℕ) → P x ≡ true → Q x ≡ true) → (xs : List (List ℕ)) → list_all P xs
+pub all_below : (P Q : List ℕ → Bool) → ((x : List ℕ) → P x ≡ true → Q x ≡ true) → (xs : List (List ℕ)) → list_all P xs
     ≡ true → list_all Q xs ≡ true
 all_below P Q under [] e = refl
 all_below P Q under (x ∷ xs) e = by (P x) (Q x) (under x) e (all_below P Q under xs)
@@ -71,7 +73,7 @@ module _ (w : List Class) (l : Named) (subtypes : (a b : Shape (List ℕ)) → l
       by (Some shape) f e = ap (is_subtype w (shape_name kind)) (sym (shape_spelt name shape f))
           ∙ sym (subtypes kind shape) ∙ e
 
-  named_of : (class : List ℕ) (names : List (List ℕ)) (kind : Shape (List ℕ))
+  pub named_of : (class : List ℕ) (names : List (List ℕ)) (kind : Shape (List ℕ))
       → list_all (λ name. is_subtype w name class) names ≡ true → is_one_of l names kind ≡ true
       → is_subtype w (shape_name kind) class ≡ true
   named_of class [] kind all e = absurd cc
@@ -141,7 +143,7 @@ module _ (members : List Member) (is : AreWhole members) (p : Member) (m : Metho
           k.below
 
       below_in : Below w id.class (let c = t in c.name)
-      below_in = ⊎_elim (λ same. inl same) (λ far. inr (above_stays group (apart group is.sound) is.outside is.imports q
+      below_in = ⊎_elim (λ same. inl same) (λ far. inr (above_stays group (apart group is.sound) is.outside (imports_told members is) q
           p.files member_is id.class (let c = t in c.name) far)) k.below
 
       subtypes : (a b : Shape (List ℕ)) → l.is_of a b ≡ is_subtype w (shape_name a) (shape_name b)

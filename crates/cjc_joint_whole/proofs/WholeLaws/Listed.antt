@@ -1,5 +1,5 @@
 -- The static methods and constructors that the export file of a package lists, as other packages of a group use them.
-use Rattle.std.proofs.Common.{◌≡◌, ℕ, ◌+◌, refl, sym, ap, ◌∙◌, Bool, true, false, length, Some}
+use Rattle.std.proofs.Common.{◌≡◌, ◌+◌, refl, sym, ap, ◌∙◌, Bool, true, false, length, Some}
 use Rattle.std.specs.Prelude.{◌&&◌, ◌||◌, not, option_map, slice_get}
 use Rattle.std.proofs.lemmas.Option.{slice_get-map}
 use Rattle.cjc_bytes.specs.AccessFlags.{is_interface, is_static}
@@ -10,10 +10,11 @@ use Rattle.cjc_components.specs.ExportFile.{export_class}
 use Rattle.cjc_components.specs.Exports.{exported_classes, open_methods}
 use Rattle.cjc_components.specs.Methods.{method_offset}
 use Rattle.cjc_components.specs.Names.{member_token}
-use Rattle.cjc_components.specs.Package.{Package}
+use Rattle.cjc_components.specs.Package.{Package, world}
+use Rattle.cjc_jvm_semantics.specs.OnePackage.{ResolvedMember, method_hit}
 use Rattle.cjc_joint_proof.specs.JointFixed.{ExportsMethod}
 use Rattle.cjc_joint_proof.specs.Loading.{ListsMethods}
-use Rattle.cjc_shape_proof.specs.Written.Entries.{IsOwnUnbound, UnboundAreOwn}
+use Rattle.cjc_shape_proof.specs.Written.Entries.{UnboundAreOwn}
 use Rattle.cjc_token_proof.specs.CardSemantics.Machine.Operations.{unbound_of}
 use Rattle.cjc_world.specs.Classes.{Class, Member}
 use Rattle.cjc_world.specs.ExportFile.declared.tree.ExportClass.{ExportClass}
@@ -37,8 +38,9 @@ module _ (p : Package) (own : UnboundAreOwn p) where
       → slice_get (exported_classes p) entry.token ≡ Some c → export_class p c ≡ entry → is_interface c.flags ≡ false
       → (id : MemberId) (f : Found) (m : ExportMethod)
       → unbound_of entry.methods (member_token asker (Some f)) ≡ Some m → m.name ≡ id.name → m.desc ≡ id.desc
+      → ((hit : ResolvedMember) → method_hit (world asker) f ≡ Some hit → hit.flags ≡ m.flags)
       → ExportsMethod asker p entry id f
-  exports_method asker entry c at is kind id f m found name desc =
+  exports_method asker entry c at is kind id f m found name desc flags =
       let token = member_token asker (Some f) in
       let r = own entry.token token c m at (ap (λ (y : ExportClass). unbound_of y.methods token) is ∙ found) in
       let it = r.1 in
@@ -55,6 +57,7 @@ module _ (p : Package) (own : UnboundAreOwn p) where
         by_token = ap (slice_get opens) (sym r.0) ∙ it.exported;
         name_is = ap (λ (y : ExportMethod). y.name) it.is ∙ name;
         desc_is = ap (λ (y : ExportMethod). y.desc) it.is ∙ desc;
+        same_flags = λ hit e. flags hit e ∙ sym (ap (λ (y : ExportMethod). y.flags) it.is);
       }
     where
       front : (x : Member) → is_open_bound x ≡ true → is_exposed x.flags ≡ true

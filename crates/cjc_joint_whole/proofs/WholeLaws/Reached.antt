@@ -72,6 +72,7 @@ module _ (list : List ℕ) (files : Files) (codes : List MethodCode) (settings :
               method = h.method;
               tree = h.tree;
               of_package = of;
+              written = h.written;
               listed = h.listed;
               place = at;
               insn = i;

@@ -31,7 +31,7 @@ use Rattle.cjc_shape_proof.specs.WorldProof.Calls.Solid.{IsSolid}
 use Rattle.cjc_shape_proof.proofs.FindsLaws.Whole.{is_solid}
 use Rattle.cjc_narrow_proof.specs.Laws.Unbroken.{IsInsnOf, IsUnbroken}
 use Rattle.cjc_narrow_proof.specs.Runs.Tables.{body_in}
-use Rattle.cjc_narrow_proof.proofs.LawsLaws.Instructions.{method_there, op_there}
+use Rattle.cjc_narrow_proof.proofs.LawsLaws.Instructions.{kept_names, method_there, op_there}
 use Rattle.cjc_narrow_proof.proofs.LawsLaws.Own.{class_by_name}
 use Rattle.cjc_token_proof.proofs.WorldProofOwn.{IsAt, mapped_at, own_at}
 use Rattle.cjc_token_proof.proofs.WorldProofRules.{method_kept}
@@ -109,7 +109,7 @@ module _ (p : GroupMember) (one : IsWholeMember p) where
       ap (λ o. subset.hit_of false (member_at d (length d.fields + place)) o) numbered
       ∙ ap (λ k. option_map (tested d) (slice_get d.methods k)) off ∙ ap (option_map (tested d)) there
 
-  private_is : (id : MemberId) (d : Class) (f : Found) (at : IsAt false id.name id.desc d f)
+  pub private_is : (id : MemberId) (d : Class) (f : Found) (at : IsAt false id.name id.desc d f)
       → find_method v id.class id.name id.desc ≡ Some f → class_at v d.is_imported d.number ≡ Some d
       → names_private v id ≡ is_private (let m = at.member in m.flags)
   unfolding names_private
@@ -164,7 +164,7 @@ module _ (p : GroupMember) (one : IsWholeMember p) where
       let u = unbroken in
       let s = solid in
       let order = s.ordered in
-      let ok = op_there one.list files one.codes one.settings u class (jop.Call 0xB7 id) at in
+      let ok = op_there one.list files one.codes one.settings (kept_names u) class (jop.Call 0xB7 id) at in
       let there = method_there files class 0xB7 id ok.0 ok.1 in
       let f = there.1 in
       let found = there.3 in
