@@ -14,7 +14,7 @@ USE = """usage: jcconv explain RULE
        jcconv explain 'refused RULE FILE CLASS MEMBER OFFSET' [LIST or DIR]
        jcconv convert LIST DIR 2>&1 | jcconv explain - [LIST or DIR]"""
 # the rules whose file is the list
-OF_LISTS = {107, 108, 207, 309, 401, 402, 407, 408, 409, 411, 414, 416, 801}
+OF_LISTS = {107, 108, 207, 309, 401, 402, 407, 408, 409, 411, 414, 416}
 OTHER = {
     "absent": "No file has this name. Names are used as they stand in the list, from the folder where you run jcconv.",
     "too long": "The file has more than 262,144 bytes, which no file that is read may have.",

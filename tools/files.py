@@ -3,18 +3,14 @@ or a class file of another version."""
 import os
 
 import card
-import classfile
 import components
 import exportfile
 import items
 import listfile
-import opcodes
 
 # the classes of java/lang without which no package is converted
 NEEDED = ["Object", "Throwable", "ArithmeticException", "ArrayIndexOutOfBoundsException", "ArrayStoreException",
           "ClassCastException", "NegativeArraySizeException", "NullPointerException"]
-# how many methods are named that work on int
-MOST = 20
 
 
 def lines(told, data):
@@ -32,8 +28,6 @@ def lines(told, data):
         return of_applets(told)
     if rule == 207:
         return of_language(told)
-    if rule == 801:
-        return of_ints(told)
     if data[:4] == b"\x00\xfa\xca\xde":
         return of_export_class(told, data)
     if rule == 101:
@@ -147,34 +141,6 @@ def of_language(told):
     lacking = [name for name in NEEDED if "java/lang/" + name not in found[0][1]]
     return [f"{found[0][0]}: java/lang lacks {', '.join(lacking)}" if lacking else
             f"{found[0][0]}: an exception of java/lang is no subclass of Throwable there"]
-
-
-def of_ints(told):
-    """The methods with code that work on int, each with the first thing that does."""
-    own = told.world.own.values() if told.world else []
-    found = [f"{name}: {of.name} {method.spelt()}, {why}" for name, of, _ in own for method in of.methods
-             for why in [int_in(of, method)] if why]
-    more = [f"and {len(found) - MOST} methods more"] if len(found) > MOST else []
-    return found[:MOST] + more or [f"{told.refusal.file}: no method of its class files works on int now",
-                                   "without the line int, 601 to 606 tell which numbers may leave 16 bits"]
-
-
-def int_in(of, method):
-    """What in a method with code works on int, or nothing."""
-    if method.code is None:
-        return ""
-    if classfile.has_int(method.descriptor):
-        return "whose descriptor has int"
-    for at in opcodes.offsets(method.code.data):
-        if works_on_int(of, method.code.data, at):
-            return f"instruction {at}: {opcodes.words(of, method.code, at)}"
-    return ""
-
-
-def works_on_int(of, data, at):
-    if data[at] in opcodes.MEMBERS:
-        return classfile.has_int(of.named_member(opcodes.index_at(data, at))[2])
-    return data[at] in opcodes.INT_ITEMS or data[at:at + 2] == opcodes.NEW_INTS
 
 
 def of_applets(told):

@@ -109,7 +109,7 @@ def everything():
 def version_lines():
     """The version, which program would run, and what it converts."""
     which = subprocess.run([sys.executable, PROGRAM, "which"], stdout=subprocess.PIPE, check=False, text=True).stdout
-    return f"jcconv {VERSION}, {STATE}\n{which}converts every package that breaks no rule"
+    return f"jcconv {VERSION}, {STATE}\n{which}converts every package that breaks no rule, int too"
 
 
 def usage(word):

@@ -24,7 +24,7 @@ class Advice(unittest.TestCase):
         return run.out if status == 0 else run.err
 
     def test_nothing(self):
-        for name in ("first", "wallet"):
+        for name in ("first", "wallet", "purse"):
             run = jcconv("advise", "list", folder=os.path.join(TOP, "examples", name))
             self.assertEqual((run.status, run.out, run.err), (0, "", ""))
 

@@ -118,19 +118,6 @@ class Forms(unittest.TestCase):
         out = jcconv("explain", refusal_of("203-inner"), "refusals/203-inner/list").out
         self.assertIn("Outer.java:10\n    Inner i = s.new Inner();\n", out)
 
-    def test_methods_that_work_on_int(self):
-        folder, begin = folder_of(self), "package p F06A6363760101 1.0\n"
-        case = os.path.join(TOP, "tests", "cases", "refuse_801_initialiser_of_an_int", "in")
-        write(os.path.join(folder, "T.class"), read(case, "T.class"))
-        write(os.path.join(folder, "list"), begin + "int\nclass T.class\n")
-        told = jcconv("explain", "refused 801 list - - 0", folder=folder).out.split("\n")
-        self.assertEqual(told[:2], ["refused 801 list - - 0: code that works on int", ""])
-        self.assertIn("T.class: p/T <clinit>()V, instruction 2: putstatic p/T.k:I", told)
-        self.assertIn("### 801 code that works on int", told)
-        write(os.path.join(folder, "list"), begin + "int\n")
-        self.assertIn("list: no method of its class files works on int now",
-                      jcconv("explain", "refused 801 list - - 0", folder=folder).out)
-
     def test_rule_alone(self):
         run = jcconv("explain", "310")
         self.assertEqual((run.status, run.out.rstrip("\n")), (0, rules.section(310)))

@@ -123,7 +123,7 @@ class Examples(unittest.TestCase):
 
     def test_aids(self):
         paths = glob.glob(os.path.join(TOP, "examples", "*", "*.exp"))
-        self.assertEqual(len(paths), 5)
+        self.assertEqual(len(paths), 7)
         for path in paths:
             self.assertEqual(exportfile.read(path).aid[0], 0xF0, path)
 

@@ -1,0 +1,5 @@
+package p;
+
+public interface Meter {
+    int read(int times, byte step);
+}
