@@ -25,7 +25,7 @@ by_four P a b c d (suc (suc zero)) e = c
 by_four P a b c d (suc (suc (suc zero))) e = d
 by_four P a b c d (suc (suc (suc (suc l)))) e = absurd (grind (arith, nat_tests, e))
 
-by_six : (P : ℕ → Type 0) → P 0 → P 1 → P 2 → P 3 → P 4 → P 5 → (l : ℕ) → nat_le l 5 ≡ true → P l
+pub by_six : (P : ℕ → Type 0) → P 0 → P 1 → P 2 → P 3 → P 4 → P 5 → (l : ℕ) → nat_le l 5 ≡ true → P l
 by_six P a b c d f g zero e = a
 by_six P a b c d f g (suc zero) e = b
 by_six P a b c d f g (suc (suc zero)) e = c

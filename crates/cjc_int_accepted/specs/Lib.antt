@@ -1,7 +1,15 @@
 pub mod Acts
 pub mod Arguments
+pub mod Ends
+pub mod Entered
 pub mod Frames
+pub mod Headers
+pub mod Laid
 pub mod Methods
+pub mod Named
+pub mod Reached
+pub mod Right
 pub mod Runs
+pub mod Selection
 pub mod Stretches
 pub mod Types
