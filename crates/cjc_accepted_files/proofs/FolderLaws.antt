@@ -17,9 +17,7 @@ use Rattle.cjc_components.specs.LowerCapRead.declared.tree.CapTree.{CapTree}
 use Rattle.cjc_components.specs.LowerCapRead.declared.tree.Component.{Component}
 use Rattle.cjc_components.specs.LowerCapRead.declared.tree.Component.TheVariants as components
 use Rattle.cjc_components.specs.LowerCapRead.declared.tree.ConstantPool.{ConstantPool}
-use Rattle.cjc_components.specs.LowerCapRead.declared.tree.Directory.{Directory}
 use Rattle.cjc_components.specs.LowerCapRead.declared.tree.Export.{Export}
-use Rattle.cjc_components.specs.LowerCapRead.declared.tree.Header.{Header}
 use Rattle.cjc_components.specs.LowerCapWrite.Class.{class_entry_bytes, class_info_bytes, interface_bytes}
 use Rattle.cjc_components.specs.LowerCapWrite.Descriptor.{class_descriptor_bytes, descriptor_bytes, types_bytes}
 use Rattle.cjc_components.specs.LowerCapWrite.Export.{export_bytes, exported_class_bytes}
@@ -36,13 +34,15 @@ use Rattle.cjc_cmd_card.specs.CmdCheck.Folder.Breaks.{front}
 use Rattle.cjc_cmd_card.specs.CmdCheck.Folder.Breaks.{part_breaks, with_component, with_components, with_read}
 use Rattle.cjc_cmd_card.specs.CmdCheck.Folder.Reads.{has_size, read_component, tags_in, tags_of, tags_with_size}
 use Rattle.cjc_components.specs.Class.{class_info}
-use Rattle.cjc_components.specs.Components.{applet, components_of, directory_with, header, import, method}
+use Rattle.cjc_components.specs.Components.{applet, directory_with, import, method}
 use Rattle.cjc_components.specs.Components.{reference_location, sizes}
 use Rattle.cjc_components.specs.Descriptor.{descriptor}
 use Rattle.cjc_components.specs.Exports.{export}
 use Rattle.cjc_components.specs.Names.{class_ref, pool_entries}
 use Rattle.cjc_components.specs.Package.{Package}
 use Rattle.cjc_components.specs.Statics.{static_field}
+use Rattle.cjc_int_theorem.specs.Components.{components_by_modes, header_by_modes}
+use Rattle.cjc_shape_proof.specs.LowerIntPackage.Modes.{Tables}
 use Rattle.cjc_accepted_files.specs.Folder.{others, parts_of, where_there}
 
 -- the tag of a component that may be absent
@@ -192,7 +192,7 @@ one_read tag wrap (Some x) (Some bytes) s tags files xs rest = (reads_as tag (wr
 one_read tag wrap None (Some bytes) s tags files xs rest = absurd s
 one_read tag wrap (Some x) None s tags files xs rest = absurd s
 
-module _ (p : Package) (caps : CapFiles) (spelt : IsSpelt (components_of p) caps) where
+module _ (t : Tables) (p : Package) (caps : CapFiles) (spelt : IsSpelt (components_by_modes t p) caps) where
   -- the components behind Applet, with their tags and their files
   abbrev tags_behind : List ℕ
   tags_behind = 4 ∷ 5 ∷ 6 ∷ 7 ∷ 8 ∷ 9 ∷ tag_where 10 caps.export ++ 11 ∷ []
@@ -211,8 +211,8 @@ module _ (p : Package) (caps : CapFiles) (spelt : IsSpelt (components_of p) caps
   abbrev behind : List Component
   behind = wrapped components.Applet (applet p) ++ with_export (export p)
 
-  header_read : read_component 1 caps.header ≡ Ok (components.Header (header p))
-  header_read = reads_as 1 (components.Header (header p)) caps.header spelt.header
+  header_read : read_component 1 caps.header ≡ Ok (components.Header (header_by_modes t p))
+  header_read = reads_as 1 (components.Header (header_by_modes t p)) caps.header spelt.header
 
   directory_read : read_component 2 caps.directory ≡ Ok (components.Directory (directory_with (sizes p) p))
   directory_read = reads_as 2 (components.Directory (directory_with (sizes p) p)) caps.directory spelt.directory
@@ -260,7 +260,7 @@ module _ (p : Package) (caps : CapFiles) (spelt : IsSpelt (components_of p) caps
   -- the components of which Applet and Export are these
   abbrev with_both : Option Applet → Option Export → CapTree
   with_both a e = record {
-    header = header p;
+    header = header_by_modes t p;
     directory = directory_with (sizes p) p;
     applet = a;
     import = Some (import p);
@@ -275,7 +275,7 @@ module _ (p : Package) (caps : CapFiles) (spelt : IsSpelt (components_of p) caps
 
   put_back : (a : Option Applet) (fa : Option (List ℕ)) (e : Option Export) (fe : Option (List ℕ))
       → SpeltWhere 3 components.Applet a fa → SpeltWhere 10 components.Export e fe
-      → with_all (front (header p) (directory_with (sizes p) p)) (tags_there fa fe)
+      → with_all (front (header_by_modes t p) (directory_with (sizes p) p)) (tags_there fa fe)
       (wrapped components.Applet a ++ with_export e) ≡ with_both a e
   put_back None None None None s t = refl
   put_back None None (Some y) (Some g) s t = refl
@@ -288,10 +288,10 @@ module _ (p : Package) (caps : CapFiles) (spelt : IsSpelt (components_of p) caps
   put_back (Some x) (Some f) None (Some g) s t = absurd t
   put_back (Some x) (Some f) (Some y) None s t = absurd t
 
-  pub cap_read : cap_in (parts_of caps) ≡ Some (components_of p)
+  pub cap_read : cap_in (parts_of caps) ≡ Some (components_by_modes t p)
   cap_read =
       (λ i. cap_of (header_read i) (directory_read i) (tags_are i) (others caps))
-      ∙ ap (λ (c : CapTree). Some c) (all_put (front (header p) (directory_with (sizes p) p)) (tags_there caps.applet
+      ∙ ap (λ (c : CapTree). Some c) (all_put (front (header_by_modes t p) (directory_with (sizes p) p)) (tags_there caps.applet
       caps.export) (others caps) behind all_read
       ∙ put_back (applet p) caps.applet (export p) caps.export spelt.applet spelt.export)
 
@@ -300,5 +300,5 @@ module _ (p : Package) (caps : CapFiles) (spelt : IsSpelt (components_of p) caps
   parts_fine =
       ap (λ tags. component_breaks (1 ∷ 2 ∷ tags) (caps.header ∷ caps.directory ∷ others caps)) tags_are
       ∙ none_break (1 ∷ 2 ∷ tags_there caps.applet caps.export) (caps.header ∷ caps.directory ∷ others caps)
-      (components.Header (header p) ∷ components.Directory (directory_with (sizes p) p) ∷ behind)
+      (components.Header (header_by_modes t p) ∷ components.Directory (directory_with (sizes p) p) ∷ behind)
       (header_read, (directory_read, all_read))

@@ -7,8 +7,7 @@ use Rattle.cjc_components.specs.LowerCapWrite.Files.{Infos, ends_too_far, file, 
 use Rattle.cjc_components.specs.LowerCapWrite.Files.{is_too_large, limit_of}
 use Rattle.cjc_components.specs.LowerCapWrite.declared.files.CapFiles.{CapFiles}
 use Rattle.cjc_components.specs.LowerCapWrite.Files.{files_of}
-use Rattle.cjc_components.specs.Components.{components_of}
-use Rattle.cjc_components.specs.Package.{Package}
+use Rattle.cjc_components.specs.LowerCapRead.declared.tree.CapTree.{CapTree}
 use Rattle.cjc_shelf.specs.Shelf.{longest_file}
 
 -- Each file can be read.
@@ -42,12 +41,12 @@ where_short : (b : Bool) (tag : ℕ) (info : List ℕ) → length info ≤ 65535
 where_short true tag info le = file_short tag info le
 where_short false tag info le = tt
 
-module _ (p : Package) (kept : limit_of (components_of p) ≡ None) where
+module _ (cap : CapTree) (kept : limit_of cap ≡ None) where
   abbrev infos : Infos
-  infos = infos_of (components_of p)
+  infos = infos_of cap
 
   fine : is_too_large infos ≡ false
-  fine = not_large (let t = components_of p in ends_too_far t.descriptor) (is_too_large infos) kept
+  fine = not_large (ends_too_far cap.descriptor) (is_too_large infos) kept
 
   class_short : length infos.class ≤ 65535
   class_short =
@@ -57,7 +56,7 @@ module _ (p : Package) (kept : limit_of (components_of p) ≡ None) where
   short : (info : List ℕ) → is_long info ≡ false → length info ≤ 65535
   short info e = ltb-false 65535 (length info) e
 
-  pub files_short : length infos.method ≤ 65535 → AreShort (files_of (components_of p))
+  pub files_short : length infos.method ≤ 65535 → AreShort (files_of cap)
   files_short method =
       let from_header = or_right (nat_lt 32767 (length infos.class)) _ fine in
       let from_directory = or_right (is_long infos.header) _ from_header in

@@ -14,7 +14,6 @@ use Rattle.cjc_cmd_card.specs.CmdCheck.Folder.Reads.{tags_of}
 use Rattle.cjc_cmd_card.specs.CmdCheck.declared.folder.folder.Parts.{Parts}
 use Rattle.cjc_cmd_convert.specs.Publication.{below, files_made, named}
 use Rattle.cjc_cmd_convert.specs.Publication as made
-use Rattle.cjc_components.specs.Components.{components_of}
 use Rattle.cjc_components.specs.Package.{Package}
 use Rattle.cjc_shelf.proofs.CommandLaws.Gathering.{on_complete, verdict-then}
 use Rattle.cjc_shelf.specs.Command.Plan.{Verdict, at_file, complete, for_each, has, read_behind, read_each, too_long}
@@ -22,6 +21,8 @@ use Rattle.cjc_shelf.specs.Command.Plan.{verdict}
 use Rattle.cjc_shelf.specs.Command.Publish.{Stand}
 use Rattle.cjc_shelf.specs.Shelf.{Files, longest_file}
 use Rattle.cjc_shelf.specs.declared.command.status.File.{File}
+use Rattle.cjc_int_theorem.specs.Components.{components_by_modes}
+use Rattle.cjc_shape_proof.specs.LowerIntPackage.Modes.{Tables}
 use Rattle.cjc_accepted_files.proofs.FolderLaws.{tag_where, tags_are, tags_there}
 use Rattle.cjc_accepted_files.proofs.LengthsLaws.{AreShort}
 use Rattle.cjc_accepted_files.specs.Folder.{others, parts_of, where_there}
@@ -117,11 +118,11 @@ module _ (told : Files) (dir : List ℕ) where
     others_there None a s = middle_there s
     others_there (Some bytes) a s = (s.0, a, middle_there s.1)
 
-  module _ (p : Package) (caps : CapFiles) (spelt : IsSpelt (components_of p) caps) (short : AreShort caps)
+  module _ (t : Tables) (p : Package) (caps : CapFiles) (spelt : IsSpelt (components_by_modes t p) caps) (short : AreShort caps)
       (name export : List ℕ) (s : StandThere (files_made name caps export)) where
     all_there : AllThere told (map (component_name dir) (tags_of caps.directory)) (others caps)
     all_there =
-        subst (λ tags. AllThere told (map (component_name dir) tags) (others caps)) (sym (tags_are p caps spelt))
+        subst (λ tags. AllThere told (map (component_name dir) tags) (others caps)) (sym (tags_are t p caps spelt))
         (others_there caps short (named (made.last_part name ++ codes ".exp") export ∷ []) caps.applet short.applet
         s.1.1)
 

@@ -13,7 +13,8 @@ use Rattle.cjc_cmd_card.proofs.RunningLaws.Made.{is_ready, ready_of}
 use Rattle.cjc_cmd_card.specs.Report.Runs.{AnyBreaks}
 use Rattle.cjc_cmd_card.specs.Running.Ready.{IsReady, tested}
 use Rattle.cjc_cmd_card.specs.CmdCheck.Folder.Breaks.{ArePartsShort, cap_in, part_breaks}
-use Rattle.cjc_components.specs.Components.{components_of}
+use Rattle.cjc_int_theorem.specs.Components.{components_by_modes}
+use Rattle.cjc_shape_proof.specs.LowerIntPackage.Modes.{Tables}
 use Rattle.cjc_components.specs.Package.{Package}
 use Rattle.cjc_components.specs.Paired.Pairs.{ArePaired}
 use Rattle.cjc_shape_proof.specs.LowerJudge.Judged.{IsJudged}
@@ -24,8 +25,6 @@ use Rattle.cjc_components.specs.LowerList.Listed.{ListTree}
 use Rattle.cjc_shelf.specs.Bytes.Text.{kept, lines_from}
 use Rattle.cjc_cmd_card.specs.LowerScriptText.Scripted.{ScriptTree, of_lines, scripted, with_lines}
 use Rattle.cjc_shape_proof.specs.LowerShape.Prepared as prepared
-use Rattle.cjc_shape_proof.proofs.WrittenLaws.Files.{same_files}
-use Rattle.cjc_shape_proof.specs.Written.Converted.{IsConverted}
 use Rattle.cjc_verified_proof.specs.TokenProof.Components.Whole.{exports_of, whole}
 use Rattle.cjc_components.specs.World.Files.{Files}
 use Rattle.cjc_accepted_files.specs.Folder.{input_of, parts_of}
@@ -52,10 +51,10 @@ tested_more list files b (of_group (i, group, at, h)) = of_group (
   h,
 )
 
-module _ (list : ListTree) (files : List (List ℕ)) (judged : Judged) (p : Package) (is : IsConverted list files judged
-    p) where
+module _ (list : ListTree) (files : List (List ℕ)) (judged : Judged) (sound : prepared.IsSound list files judged)
+    (t : Tables) (p : Package) (there : p.files ≡ judged.world) where
   is_judged : IsJudged list files tested judged
-  is_judged = let by = is.sound.judged_by in record {
+  is_judged = let by = sound.judged_by in record {
     unbroken = λ b h. by.unbroken b (tested_more list files b h);
     world = by.world;
     read = by.read;
@@ -64,24 +63,21 @@ module _ (list : ListTree) (files : List (List ℕ)) (judged : Judged) (p : Pack
     modes = λ e. let clash : false ≡ true = e in absurd cc;
   }
 
-  there : p.files ≡ judged.world
-  there = same_files list files judged p is
-
   pub none_broken : SentencesHold → (let w = p.files in IsImage p.files (all_codes w.classes) p.image)
-      → Consistent (components_of p) (exports_of p) → ArePaired p.files p.image (whole p) → (caps : CapFiles)
+      → Consistent (components_by_modes t p) (exports_of p) → ArePaired p.files p.image (whole p) → (caps : CapFiles)
       → ArePartsShort (parts_of caps) → part_breaks (parts_of caps) ≡ [] → cap_in (parts_of caps)
-      ≡ Some (components_of p) → (b : Break) → AnyBreaks (input_of list files caps) [] b → ⊥
+      ≡ Some (components_by_modes t p) → (b : Break) → AnyBreaks (input_of list files caps) [] b → ⊥
   none_broken hold image consistent paired caps short fine cap =
       let input = input_of list files caps in
-      let together : Consistent (components_of p) (let w = judged.world in w.exports) =
-      subst (λ (w : Files). Consistent (components_of p) w.exports) there consistent in
-      let ready : IsReady input [] (ready_of judged (components_of p) no_acts) =
-      is_ready input [] judged (components_of p) (components_of p) no_acts short is_judged fine cap refl together
+      let together : Consistent (components_by_modes t p) (let w = judged.world in w.exports) =
+      subst (λ (w : Files). Consistent (components_by_modes t p) w.exports) there consistent in
+      let ready : IsReady input [] (ready_of judged (components_by_modes t p) no_acts) =
+      is_ready input [] judged (components_by_modes t p) (components_by_modes t p) no_acts short is_judged fine cap refl together
       no_lines
       in
       let own : (let w = judged.world in IsImage judged.world (all_codes w.classes) p.image) =
       subst (λ (w : Files). IsImage w (all_codes w.classes) p.image) there image in
       let made : IsImage judged.world judged.codes p.image =
-      subst (λ (cs : List MethodCode). IsImage judged.world cs p.image) (sym is.sound.judged_by.read.codes_are) own in
-      none_first hold input (ready_of judged (components_of p) no_acts) ready p.image made (whole p) refl
+      subst (λ (cs : List MethodCode). IsImage judged.world cs p.image) (sym sound.judged_by.read.codes_are) own in
+      none_first hold input (ready_of judged (components_by_modes t p) no_acts) ready p.image made (whole p) refl
       (subst (λ (w : Files). ArePaired w p.image (whole p)) there paired)

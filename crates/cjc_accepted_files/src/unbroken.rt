@@ -33,47 +33,44 @@ use cjc_accepted_theorem::read_back::written_components_are_accepted;
 use cjc_accepted_theorem::stands::code_of_converted_packages_stands;
 use cjc_cmd_card::check_rules::consistent_where_unbroken;
 use cjc_convert::conversions_in_short_mode_are_as_before;
-use cjc_shape_proof::written::converted_files_are_sound;
-use cjc_theorem::alike::names_are_met;
+use cjc_int_theorem::whole::{converted_packages_are_judged, converted_packages_behave_alike};
 use cjc_theorem::fair_exports::fair_exports_are_sound;
 
 /// What is converted, with fair export files, is a package of which the laws of converted packages speak, where none of
 /// its methods is in int mode.
 pub fn conversions_are_of_packages()
     ensures { (list : ListTree) (files : Items (Items ℕ)) (made : Written) → IsRead list
-        → IsConvertedByModes list files made
+        → (by_modes : IsConvertedByModes list files made)
         → (trees : Items FileTree) → SpellTrees list.lines files trees → ExportsAreFair (exports_of trees)
         → NoneInIntMode list (files_spelt list trees)
-        → (is : IsConverted list files made) × IsConvertedPackage list files is.judged is.whole }
+        → (is : IsConverted list files made) × (is.whole ≡ by_modes.whole)
+        × IsConvertedPackage list files is.judged is.whole }
 {
     conversions_in_short_mode_are_as_before();
     fair_exports_are_sound();
 }
 
 /// From a folder in which the files of a conversion stand, with fair export files, all that it wrote is read, and its
-/// list, its files and these components break no rule that is tested before components are run.
+/// list, its files and these components break no rule that is tested before components are run, whichever methods are in
+/// int mode.
 pub fn written_files_break_nothing()
     ensures read { (list : ListTree) (files : Items (Items ℕ)) (made : Written) → IsRead list
         → IsConvertedByModes list files made
-        → (trees : Items FileTree) → SpellTrees list.lines files trees → ExportsAreFair (exports_of trees)
-        → NoneInIntMode list (files_spelt list trees)
         → (told : Files) (dir name export : Items ℕ) → Stand told (map (below dir) (files_made name made.caps export))
         → verdict told (plan_of_parts dir) ≡ complete_with (parts_of made.caps) }
     ensures unbroken { (list : ListTree) (files : Items (Items ℕ)) (made : Written) → IsRead list
         → IsConvertedByModes list files made
         → (trees : Items FileTree) → SpellTrees list.lines files trees → ExportsAreFair (exports_of trees)
-        → NoneInIntMode list (files_spelt list trees)
         → (b : Break) → AnyBreaks (input_of list files made.caps) [] b → ⊥ }
 {
     consistent_where_unbroken();
-    conversions_are_of_packages();
-    converted_files_are_sound();
-    names_are_met();
+    converted_packages_are_judged();
+    converted_packages_behave_alike();
     written_components_are_paired();
     written_files_are_read_back();
 }
 
-/// Nor do they break one of the type checker's.
+/// Nor do they break one of the type checker's, where no method is in int mode.
 pub fn written_files_are_accepted()
     ensures { (list : ListTree) (files : Items (Items ℕ)) (made : Written) → IsRead list
         → IsConvertedByModes list files made

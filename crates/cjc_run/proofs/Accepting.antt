@@ -102,11 +102,22 @@ module _ (files : Files) (dir : List ℕ) (x : ListTree × List (List ℕ)) wher
 
 -- ---- what is answered
 
--- of a conversion whose export files are fair, and none of whose methods is in int mode
+-- of a conversion
 abbrev OfConversions : (ListTree → List (List ℕ) → Conversion → Type 0) → Type 0
 OfConversions Holds =
     (list : ListTree) (inputs : List (List ℕ)) (made : Conversion) → IsRead list → IsConverted list inputs made
-    → (trees : List FileTree) → SpellTrees list.lines inputs trees → ExportsAreFair (exports_of trees)
+    → Holds list inputs made
+
+-- whose export files are fair
+abbrev OverFair : (ListTree → List (List ℕ) → Conversion → Type 0) → ListTree → List (List ℕ) → Conversion → Type 0
+OverFair Holds list inputs made =
+    (trees : List FileTree) → SpellTrees list.lines inputs trees → ExportsAreFair (exports_of trees)
+    → Holds list inputs made
+
+-- and none of whose methods is in int mode
+abbrev InShortMode : (ListTree → List (List ℕ) → Conversion → Type 0) → ListTree → List (List ℕ) → Conversion → Type 0
+InShortMode Holds list inputs made =
+    (trees : List FileTree) → SpellTrees list.lines inputs trees → ExportsAreFair (exports_of trees)
     → NoneInIntMode list (files_spelt list trees) → Holds list inputs made
 
 -- its components are read where they stand
@@ -123,7 +134,8 @@ BreakNothing list inputs made = (b : Break) → by_token.AnyBreaks (input_of lis
 abbrev AreAccepted : ListTree → List (List ℕ) → Conversion → Type 0
 AreAccepted list inputs made = (b : Break) → BreaksTyping (input_of list inputs made.caps) b → ⊥
 
-module _ (back : OfConversions AreReadBack) (fine : OfConversions BreakNothing) (accepted : OfConversions AreAccepted)
+module _ (back : OfConversions AreReadBack) (fine : OfConversions (OverFair BreakNothing))
+    (accepted : OfConversions (InShortMode AreAccepted))
     (name dir : List ℕ) (files : Files) (is : AreWritten name dir files) where
   abbrev input : Input
   input = let made = is.made in input_of is.list is.inputs made.caps
@@ -143,8 +155,8 @@ module _ (back : OfConversions AreReadBack) (fine : OfConversions BreakNothing) 
         files = is.inputs;
         parts = parts;
         script = [];
-      })) (let made = is.made in parts_of made.caps) (back is.list is.inputs is.made list_is_read is.converted is.trees
-      is.spell is.fair is.short files dir (let list = is.list in list.package) (let made = is.made in made.export) is.stand)
+      })) (let made = is.made in parts_of made.caps) (back is.list is.inputs is.made list_is_read is.converted files dir
+      (let list = is.list in list.package) (let made = is.made in made.export) is.stand)
 
   all_read : verdict files (plan_of_verify name dir) ≡ complete input
   all_read =
@@ -153,8 +165,7 @@ module _ (back : OfConversions AreReadBack) (fine : OfConversions BreakNothing) 
       ((text_read files dir (is.list, is.inputs) name is.read).1 ∙ parts_read)
 
   no_break : (b : Break) → AnyBreaks input b → ⊥
-  no_break b (on_first x) = fine is.list is.inputs is.made list_is_read is.converted is.trees is.spell is.fair
-      is.short b x
+  no_break b (on_first x) = fine is.list is.inputs is.made list_is_read is.converted is.trees is.spell is.fair b x
   no_break b (on_second before p) = accepted is.list is.inputs is.made list_is_read is.converted is.trees is.spell
       is.fair is.short b p
 
@@ -167,7 +178,8 @@ EndsDone name dir answer told =
     IfSome (known_end told (plan_of_verify name dir)) (λ end. (inputs : Input) → end ≡ complete inputs
     → ((r : Refusal) → Verifies inputs (Err r) → ⊥) → (answer ≡ status.NoMemory) ⊎ (answer ≡ status.Done))
 
-module _ (back : OfConversions AreReadBack) (fine : OfConversions BreakNothing) (accepted : OfConversions AreAccepted)
+module _ (back : OfConversions AreReadBack) (fine : OfConversions (OverFair BreakNothing))
+    (accepted : OfConversions (InShortMode AreAccepted))
   where
     verified : (name dir : List ℕ) (answer : Status) (told : Option Files) → EndsDone name dir answer told
         → IfSome told (λ files. AreWritten name dir files → (answer ≡ status.NoMemory) ⊎ (answer ≡ status.Done))

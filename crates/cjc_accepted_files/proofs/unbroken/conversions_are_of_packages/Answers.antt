@@ -9,8 +9,9 @@ pub returns : goal.returns
 returns c = λ list files made read by_modes trees spell fair none.
     let its = by_modes.is_package.spelt in
     let there = files_are list files trees spell its.trees its.is_world.0 by_modes.whole.files its.world_is in
-    let is = (c.conversions_in_short_mode_are_as_before.ensures.short list files made by_modes
-    (subst (NoneInIntMode list) (sym there) none)).0 in
+    let as_before = c.conversions_in_short_mode_are_as_before.ensures.short list files made by_modes
+    (subst (NoneInIntMode list) (sym there) none) in
+    let is = as_before.0 in
     let laws = c.fair_exports_are_sound.ensures in
     let judged = is.judged in
     let p = is.whole in
@@ -20,6 +21,7 @@ returns c = λ list files made read by_modes trees spell fair none.
     let checks = own_checks list files judged read is.sound p same in
     let spelt = is.is_package.spelt in (
       is,
+      as_before.1,
       is_converted list files judged read is.sound p is.is_package is.limits
           (laws.sound list.name p.files judged.codes settings own checks)
           (laws.plain list.name p.files judged.codes settings checks)
