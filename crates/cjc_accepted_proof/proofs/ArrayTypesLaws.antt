@@ -207,6 +207,21 @@ module _ (w : List Class) (ref : List ℕ → ClassRef) where
       by a f false false true g h = bytes a f (is_array_by 66 name) refl h
       by a f false false false g h = numbers_serve 83 effects.Short (OfNumbers Shorts) refl refl name a f h
 
+  ints_serve : (opcode : ℕ) (name type : List ℕ) → type_named w ref name ≡ Some type → works_on_int opcode ≡ true
+      → is_array_for opcode name ≡ true → begins_with (arrays_of effects.Int) type ≡ true
+  ints_serve opcode name type e on_int good =
+      let r = of_named name type e in
+      ap (begins_with (arrays_of effects.Int)) (sym r.written)
+      ∙ by r.shape r.named (works_on_int opcode) ((opcode == jvm.aaload) || (opcode == jvm.aastore))
+      ((opcode == jvm.baload) || (opcode == jvm.bastore)) on_int good
+    where
+      by : (a : Shape (List ℕ)) → shape_named name ≡ Some a → (i r n : Bool) → i ≡ true → (if i
+          then is_array_by 73 name else if r then is_some (held_by_name name) else if n then is_array_by 66 name
+          || is_array_by 90 name else is_array_by 83 name) ≡ true → begins_with (arrays_of effects.Int) (shape_nibbles
+          ref a) ≡ true
+      by a f true r n g h = numbers_serve 73 effects.Int (OfNumbers Ints) refl refl name a f h
+      by a f false r n g h = absurd cc
+
   -- ---- what arrays hold
 
   holds : (name type element : List ℕ) → type_named w ref name ≡ Some type → held type ≡ Some element
@@ -244,4 +259,4 @@ module _ (w : List Class) (ref : List ℕ → ClassRef) where
           }
 
   pub arrays_agree : ArraysAgree (type_named w ref)
-  arrays_agree = record { arrays = are_arrays; served = serves; inside = holds }
+  arrays_agree = record { arrays = are_arrays; served = serves; ints = ints_serve; inside = holds }

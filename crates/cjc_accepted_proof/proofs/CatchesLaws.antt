@@ -48,8 +48,8 @@ use Rattle.cjc_accepted_proof.specs.Written.{written_pair}
 
 -- ---- lists
 
-in_mapped : {A B : Type 0} (f : A → B) (xs : List A) (y : B) → Contains (map f xs) y → (x : A) × Contains xs x × (f x
-    ≡ y)
+pub in_mapped : {A B : Type 0} (f : A → B) (xs : List A) (y : B) → Contains (map f xs) y → (x : A) × Contains xs x
+    × (f x ≡ y)
 in_mapped f [] y (k, lt, e) = absurd (omega (arith, lt))
 in_mapped {A} f (x ∷ xs) y on = by (contains_cons (f x) (map f xs) y on) (in_mapped f xs y)
   where
@@ -58,7 +58,7 @@ in_mapped {A} f (x ∷ xs) y on = by (contains_cons (f x) (map f xs) y on) (in_m
     by (inl same) more = (x, contains_head x xs, same)
     by (inr later) more = let r = more later in (r.0, contains_tail x xs r.0 r.1, r.2)
 
-in_handlers : (n : Naming) (to : ℕ → ℕ) (cs : List NCatch) (h : Handler) → Contains (handlers_of n to cs) h
+pub in_handlers : (n : Naming) (to : ℕ → ℕ) (cs : List NCatch) (h : Handler) → Contains (handlers_of n to cs) h
     → (c : NCatch) × (later : List NCatch) × Contains cs c × (handler_of n to c later ≡ h)
 in_handlers n to [] h (k, lt, e) = absurd (omega (arith, lt))
 in_handlers n to (c ∷ cs) h on = by (contains_cons (handler_of n to c cs) (handlers_of n to cs) h on) (in_handlers n to
@@ -70,7 +70,7 @@ in_handlers n to (c ∷ cs) h on = by (contains_cons (handler_of n to c cs) (han
     by (inl same) rest = (c, cs, contains_head c cs, same)
     by (inr more) rest = let r = rest more in (r.0, r.1, contains_tail c cs r.0 r.2, r.3)
 
-each_in : {A : Type 0} (P : A → Type 0) (xs : List A) (x : A) → AllByRecursion P xs → Contains xs x → P x
+pub each_in : {A : Type 0} (P : A → Type 0) (xs : List A) (x : A) → AllByRecursion P xs → Contains xs x → P x
 each_in P [] x all (k, lt, e) = absurd (omega (arith, lt))
 each_in P (y ∷ ys) x all on = by (contains_cons y ys x on) (each_in P ys x all.1)
   where
@@ -78,12 +78,12 @@ each_in P (y ∷ ys) x all on = by (contains_cons y ys x on) (each_in P ys x all
     by (inl same) more = subst P same all.0
     by (inr later) more = more later
 
-all_of : {A : Type 0} (P : A → Type 0) (xs : List A) → ((x : A) → Contains xs x → P x) → AllByRecursion P xs
+pub all_of : {A : Type 0} (P : A → Type 0) (xs : List A) → ((x : A) → Contains xs x → P x) → AllByRecursion P xs
 all_of P [] each = tt
 all_of P (x ∷ xs) each = (each x (contains_head x xs), all_of P xs (λ y on. each y (contains_tail x xs y on)))
 
 -- handlers of other methods cover nothing of this one
-elsewhere_covers : (start end at : ℕ) (hs : List Handler) (h : Handler) → start ≤ at → at ≤ end
+pub elsewhere_covers : (start end at : ℕ) (hs : List Handler) (h : Handler) → start ≤ at → at ≤ end
     → AllElsewhere start end hs → Contains hs h → h.start ≤ at → at < h.start + h.length → ⊥
 elsewhere_covers start end at [] h low high off (k, lt, e) from under = absurd (omega (arith, lt))
 elsewhere_covers start end at (g ∷ hs) h low high (lowered.before le off) on from under =
@@ -106,10 +106,10 @@ elsewhere_covers start end at (g ∷ hs) h low high (lowered.behind lt off) on f
 -- ---- handlers by their labels
 
 -- one that is written for a handler of these
-abbrev IsFor : (label : ℕ → ℕ) → List CatchByName → NCatch → Type 0
+abbrev pub IsFor : (label : ℕ → ℕ) → List CatchByName → NCatch → Type 0
 IsFor label all c = (d : CatchByName) × Contains all d × (catch_at label d ≡ c)
 
-all_for : (label : ℕ → ℕ) (all ds : List CatchByName) → ((d : CatchByName) → Contains ds d → Contains all d)
+pub all_for : (label : ℕ → ℕ) (all ds : List CatchByName) → ((d : CatchByName) → Contains ds d → Contains all d)
     → AllByRecursion (IsFor label all) (catches_at label ds)
 all_for label all [] within = tt
 all_for label all (d ∷ ds) within =

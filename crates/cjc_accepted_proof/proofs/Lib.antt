@@ -20,6 +20,7 @@ pub mod LeastLaws
 pub mod ThisLaws
 pub mod KeepsLaws
 pub mod CatchesLaws
+pub mod EdgesLaws
 pub mod StepsLaws
 pub mod EntryLaws
 pub mod BesideLaws

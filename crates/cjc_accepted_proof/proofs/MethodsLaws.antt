@@ -1,25 +1,17 @@
 -- The frames of a method of the card that is written for one of a class file: their blocks lead to each other.
-use Rattle.cjc_types.specs.ClassFile.declared.tree.Catch.{Catch as CatchByName}
-use Rattle.std.proofs.Common.{◌≡◌, ◌⊎◌, ⊎_elim, ℕ, zero, suc, ◌+◌, ◌-◌, ◌<◌, ◌≤◌, refl, sym, ap, subst, ◌∙◌, arith}
-use Rattle.std.proofs.Common.{Bool, true, false, List, [], ◌∷◌, ◌++◌, length, length-append, map, filter_map}
-use Rattle.std.proofs.Common.{flat_map, slice_get, Option, Some, None, option_map, Contains}
+use Rattle.std.proofs.Common.{◌≡◌, ℕ, zero, suc, ◌+◌, ◌<◌, ◌≤◌, refl, sym, ap, subst, ◌∙◌, arith}
+use Rattle.std.proofs.Common.{Bool, true, false, List, [], ◌∷◌, ◌++◌, length, length-append}
+use Rattle.std.proofs.Common.{flat_map, slice_get, Option, Some, None, Contains}
 use Rattle.std.specs.Prelude.{◌==◌, nat_lt, if◌then◌else◌}
 use Rattle.std.proofs.lemmas.Bool.{eqb-true}
 use Rattle.std.proofs.lemmas.Bool.Decides.{nat_tests}
-use Rattle.std.proofs.lemmas.List.Elements.{Contains-append_left, Contains-append_right}
 use Rattle.cjc_types.proofs.BytesGets.{get_below, get_inside, position_there}
-use Rattle.cjc_types.proofs.Typed.{contains_kept, contains_mapped}
 use Rattle.cjc_types.specs.Bytecode.declared.insn.JInsn.{JInsn}
 use Rattle.cjc_types.specs.Bytecode.declared.insn.JOp.{JOp}
 use Rattle.cjc_types.specs.Fixpoint.Tables.{Covers, HasRow, IsClosed}
-use Rattle.cjc_types.specs.Fixpoint.Working.Edges.{contains_head}
-use Rattle.cjc_types.specs.Fixpoint.declared.flow.Edge.{Edge}
-use Rattle.cjc_types.specs.Flow.{Body as BodyByName, caught as caught_by_name, covers as covers_by_name}
-use Rattle.cjc_types.specs.Flow.{edge as edge_by_name, entry as entry_by_name, handler_edge as handler_edge_by_name}
-use Rattle.cjc_types.specs.Flow.{insn_edges, next_place as next_by_name, place_at as place_by_name, place_edges}
-use Rattle.cjc_types.specs.Flow.{successors as successors_by_name, type_flow}
+use Rattle.cjc_types.specs.Flow.{Body as BodyByName, caught as caught_by_name, entry as entry_by_name, type_flow}
 use Rattle.cjc_types.specs.States.{states}
-use Rattle.cjc_types.specs.Steps.{after as after_by_name, goes_on as goes_on_by_name, targets}
+use Rattle.cjc_types.specs.Steps.{after as after_by_name, targets}
 use Rattle.cjc_types.specs.declared.state.State.{State}
 use Rattle.cjc_check_proof.specs.NCode.Written.{Resolution, narrow_code, place_in, reached, written_for}
 use Rattle.cjc_check_proof.specs.NCode.declared.narrow.NInsn.{NInsn}
@@ -41,12 +33,13 @@ use Rattle.cjc_accepted_proof.specs.Frames.{card_state}
 use Rattle.cjc_accepted_proof.specs.Methods.{IsWrittenFor, block_of, blocks_from}
 use Rattle.cjc_accepted_proof.specs.Methods.{steps_from}
 use Rattle.cjc_accepted_proof.proofs.BlocksLaws.{below_itself, below_through}
+use Rattle.cjc_accepted_proof.proofs.EdgesLaws.{falls_to, handled_to, jumps_to}
 use Rattle.cjc_accepted_proof.proofs.FramesLaws.{between_own, state_below, state_own}
 use Rattle.cjc_accepted_proof.proofs.KindsLaws.{handler_below}
 
 -- ---- instructions as steps
 
-steps_both : (step : (label : ℕ) → NInsn → Step) (k : ℕ) (xs ys : List NInsn) → steps_from step k (xs ++ ys)
+pub steps_both : (step : (label : ℕ) → NInsn → Step) (k : ℕ) (xs ys : List NInsn) → steps_from step k (xs ++ ys)
     ≡ steps_from step k xs ++ steps_from step (k + length xs) ys
 steps_both step k [] ys = let same : k ≡ k + 0 = omega arith in ap (λ n. steps_from step n ys) same
 steps_both step k (x ∷ xs) ys =
@@ -54,12 +47,13 @@ steps_both step k (x ∷ xs) ys =
     ap (λ ss. step k x ∷ ss) (steps_both step (k + 1) xs ys ∙ ap (λ n. steps_from step (k + 1) xs ++ steps_from step n
     ys) same)
 
-steps_long : (step : (label : ℕ) → NInsn → Step) (k : ℕ) (xs : List NInsn) → length (steps_from step k xs) ≡ length xs
+pub steps_long : (step : (label : ℕ) → NInsn → Step) (k : ℕ) (xs : List NInsn) → length (steps_from step k xs)
+    ≡ length xs
 steps_long step k [] = refl
 steps_long step k (x ∷ xs) = ap suc (steps_long step (k + 1) xs)
 
-step_there : (step : (label : ℕ) → NInsn → Step) (k : ℕ) (xs : List NInsn) (j : ℕ) (s : Step) → slice_get (steps_from
-    step k xs) j ≡ Some s → (x : NInsn) × (s ≡ step (k + j) x)
+pub step_there : (step : (label : ℕ) → NInsn → Step) (k : ℕ) (xs : List NInsn) (j : ℕ) (s : Step) → slice_get
+    (steps_from step k xs) j ≡ Some s → (x : NInsn) × (s ≡ step (k + j) x)
 step_there step k [] j s e = absurd cc
 step_there step k (x ∷ xs) zero s e =
     let same : step k x ≡ s = cc in
@@ -330,52 +324,6 @@ module _ (card_type : List ℕ → Option (List ℕ)) (is_of : Subtype) (r : Res
               ∙ is_open)) (state_below card_type count o y x covered.above));
         }
 
-    -- ---- where an instruction leads
-
-    handed : (at : ℕ) (i : JInsn) (x : State) → slice_get b.insns at ≡ Some i → HasRow rows at x → (e : Edge State)
-        → Contains (insn_edges b at i x) e → Covers (type_flow b) rows e.to e.state
-    handed at i x there row e on = table.steps at x row e (subst (λ (o : Option JInsn). Contains (place_edges b at o x)
-        e) (sym there) on)
-
-    followed : (at : ℕ) (i : JInsn) (x : State) → slice_get b.insns at ≡ Some i → HasRow rows at x → (place : ℕ)
-        → Contains (successors_by_name b.insns at i.op) place → Covers (type_flow b) rows place (after_by_name i.op x)
-    followed at i x there row place on = handed at i x there row (edge_by_name (after_by_name i.op x) place)
-        (Contains-append_left (map (edge_by_name (after_by_name i.op x)) (successors_by_name b.insns at i.op))
-        (filter_map (handler_edge_by_name b.insns i.at x) b.catches) (edge_by_name (after_by_name i.op x) place)
-        (contains_mapped (edge_by_name (after_by_name i.op x)) (successors_by_name b.insns at i.op) place on))
-
-    falls_to : (at : ℕ) (i : JInsn) (x : State) → slice_get b.insns at ≡ Some i → HasRow rows at x → goes_on_by_name
-        i.op ≡ true → Covers (type_flow b) rows (suc at) (after_by_name i.op x)
-    falls_to at i x there row goes =
-        let lt = decoded.next at i there goes in
-        let within : nat_lt (at + 1) (length b.insns) ≡ true = grind (arith, nat_tests, lt) in
-        let same : at + 1 ≡ suc at = omega arith in
-        let next : Contains (next_by_name (goes_on_by_name i.op) (length b.insns) at) (at + 1) = subst (λ (g : Bool).
-        Contains (next_by_name g (length b.insns) at) (at + 1)) (sym goes) (subst (λ (g : Bool). Contains (if g then (at
-        + 1) ∷ [] else []) (at + 1)) (sym within) (contains_head (at + 1) [])) in
-        subst (λ n. Covers (type_flow b) rows n (after_by_name i.op x)) same (followed at i x there row (at + 1)
-        (Contains-append_left (next_by_name (goes_on_by_name i.op) (length b.insns) at) (filter_map (place_by_name
-        b.insns) (targets i.op)) (at + 1) next))
-
-    jumps_to : (at : ℕ) (i : JInsn) (x : State) → slice_get b.insns at ≡ Some i → HasRow rows at x → (t place : ℕ)
-        → Contains (targets i.op) t → place_by_name b.insns t ≡ Some place → Covers (type_flow b) rows place
-        (after_by_name i.op x)
-    jumps_to at i x there row t place on found = followed at i x there row place (Contains-append_right (next_by_name
-        (goes_on_by_name i.op) (length b.insns) at) (filter_map (place_by_name b.insns) (targets i.op)) place
-        (contains_kept (place_by_name b.insns) (targets i.op) t place on found))
-
-    handled_to : (at : ℕ) (i : JInsn) (x : State) → slice_get b.insns at ≡ Some i → HasRow rows at x → (d : CatchByName)
-        → Contains b.catches d → covers_by_name d i.at ≡ true → (place : ℕ) → place_by_name b.insns d.target
-        ≡ Some place → Covers (type_flow b) rows place (caught_by_name d x)
-    handled_to at i x there row d on cover place found =
-        let e = edge_by_name (caught_by_name d x) place in
-        let here : handler_edge_by_name b.insns i.at x d ≡ Some (edge_by_name (caught_by_name d x) place) = ap
-        (λ (g : Bool). if g then option_map (edge_by_name (caught_by_name d x)) (place_by_name b.insns d.target)
-        else None) cover ∙ ap (option_map (edge_by_name (caught_by_name d x))) found in
-        handed at i x there row e (Contains-append_right (map (edge_by_name (after_by_name i.op x))
-        (successors_by_name b.insns at i.op)) (filter_map (handler_edge_by_name b.insns i.at x) b.catches) e
-        (contains_kept (handler_edge_by_name b.insns i.at x) b.catches d e on here))
-
     -- the label that is found for a target is the target's
     same_label : (t place offset lab : ℕ) (n : JInsn) (y : State) → slice_get b.insns place ≡ Some n → n.at ≡ t
         → HasRow rows place y → offset ≡ to (label t) → place_at m.steps offset ≡ Some lab → label n.at ≡ lab
@@ -468,7 +416,7 @@ module _ (card_type : List ℕ → Option (List ℕ)) (is_of : Subtype) (r : Res
         let x = o.state in
         let row = is.stand o.at i x o.is_insn o.is_row in
         let on = row.falls (subst (λ (v : Block). goes_on v.steps ≡ true) o.is_made_of goes) in
-        let c = falls_to o.at i x o.is_insn o.is_row on in
+        let c = falls_to b rows decoded table o.at i x o.is_insn o.is_row on in
         let y = c.row in
         let lt = decoded.next o.at i o.is_insn on in
         let j = get_inside b.insns (suc o.at) (omega (arith, lt)) in
@@ -492,7 +440,7 @@ module _ (card_type : List ℕ → Option (List ℕ)) (is_of : Subtype) (r : Res
         let h = decoded.targets o.at i t.0 o.is_insn t.1 in
         let p = h.1 in
         let n = p.insn in
-        let c = jumps_to o.at i x o.is_insn o.is_row t.0 h.0 t.1 p.found in
+        let c = jumps_to b rows decoded table o.at i x o.is_insn o.is_row t.0 h.0 t.1 p.found in
         let free = closed_behind t.0 (pairs.each o.at i x o.is_insn o.is_row) t.1 in
         let label_is = same_label t.0 h.0 offset lab n c.row p.is_insn p.stands c.is_row t.2 found in
         subst (λ (v : Block). LeadsTo count blocks lab v.behind) (sym o.is_made_of) (subst (λ l. LeadsTo count blocks l
@@ -515,7 +463,7 @@ module _ (card_type : List ℕ → Option (List ℕ)) (is_of : Subtype) (r : Res
         let h = decoded.handlers d f.listed in
         let p = h.1 in
         let n = p.insn in
-        let g = handled_to o.at i x o.is_insn o.is_row d f.listed f.covers h.0 p.found in
+        let g = handled_to b rows decoded table o.at i x o.is_insn o.is_row d f.listed f.covers h.0 p.found in
         let label_is = same_label d.target h.0 c.target lab n g.row p.is_insn p.stands g.is_row f.target found in
         subst (λ (v : Block). LeadsTo count blocks lab (caught c v.before)) (sym o.is_made_of) (subst
         (λ l. LeadsTo count blocks

@@ -25,10 +25,9 @@ use Rattle.cjc_types.specs.declared.state.State.{State}
 use Rattle.cjc_types.specs.World.Classes.{Class}
 use Rattle.cjc_frames.specs.declared.acts.Act.{Act}
 use Rattle.cjc_frames.specs.declared.acts.Need.TheVariants.{OfType}
-use Rattle.cjc_frames.specs.Acts.{Breaks, Subtype, given, has_wrong_local, is_off, is_wrong, is_wrong_local}
+use Rattle.cjc_frames.specs.Acts.{Subtype, given, has_wrong_local, is_off, is_wrong, is_wrong_local}
 use Rattle.cjc_frames.specs.Acts.{lacks_local}
 use Rattle.cjc_frames.specs.Acts.{stack_behind}
-use Rattle.cjc_frames.specs.Acts.Breaks.{clash, wrong, off, unknown, misnamed}
 use Rattle.cjc_verify.specs.CardActs.CardTypes.{ValueType, words}
 use Rattle.cjc_verify.specs.Narrow.Pairs.Open.{Open, begun, closed, pushed}
 use Rattle.cjc_verify.specs.ClassTypes.{class_type}
@@ -36,7 +35,7 @@ use Rattle.cjc_verify.specs.Instructions.{getting}
 use Rattle.cjc_accepted_proof.specs.Frames.{FieldFits, MirrorsInPair, Stands, SubtypesAgree, card_cell, card_cells}
 use Rattle.cjc_accepted_proof.specs.Frames.{card_stack, card_state, left_out}
 use Rattle.cjc_accepted_proof.proofs.KindsLaws.{result_puts}
-use Rattle.cjc_accepted_proof.proofs.RowsLaws.{mapped_both, zip_both, zip_itself, zip_long}
+use Rattle.cjc_accepted_proof.proofs.RowsLaws.{mapped_both, none_breaks, zip_both, zip_itself, zip_long}
 
 -- no more is left than there was
 left_short : (card_type : List ℕ → Option (List ℕ)) (o : Open) (s : List Cell) → length (left_out card_type o s)
@@ -130,28 +129,11 @@ module _ (card_type : List ℕ → Option (List ℕ)) where
         ∙ ap (λ v. false || false || v || lacks_local a (cells ls)) third
         ∙ ap (λ v. false || false || false || v) mirrors.there
 
-    nothing_breaks : (z : State) → z ≡ card_state card_type before x → (rule : ℕ) → Breaks is_of b.max_stack a z rule
-        → ⊥
-    nothing_breaks z is rule (clash locals) = let e = ap (λ (v : State). v.stack) is in absurd cc
-    nothing_breaks z is rule (wrong t locals e) =
-        let stacks : Cells t ≡ Cells (cells (out before s)) = ap (λ (v : State). v.stack) is in
-        let same : t ≡ cells (out before s) = cc in
-        let no : is_wrong is_of a locals t ≡ false = ap (λ v. is_wrong is_of a v t) (ap (λ (v : State). v.locals) is)
-        ∙ ap (λ v. is_wrong is_of a (cells ls) v) same ∙ not_wrong in
-        absurd cc
-    nothing_breaks z is rule (off t locals e) =
-        let stacks : Cells t ≡ Cells (cells (out before s)) = ap (λ (v : State). v.stack) is in
-        let same : t ≡ cells (out before s) = cc in
-        let no : is_off b.max_stack a locals t ≡ false = ap (λ v. is_off b.max_stack a v t) (ap (λ (v : State).
-        v.locals) is) ∙ ap (λ v. is_off b.max_stack a (cells ls) v) same ∙ not_off in
-        absurd cc
-    nothing_breaks z is rule (unknown v e) = let no = mirrors.known in absurd cc
-    nothing_breaks z is rule (misnamed v e) = let no = mirrors.named in absurd cc
-
     pub pair_row_stands : Stands is_of count b.max_stack a (card_state card_type before x) (card_state card_type behind
         (steps.after op x))
     pair_row_stands = record {
-      unbroken = nothing_breaks (card_state card_type before x) refl;
+      unbroken = none_breaks is_of b.max_stack a (cells ls) (cells (out before s)) not_wrong not_off mirrors.known
+          mirrors.named (card_state card_type before x) refl;
       goes = (
         cut_below behind (stack_behind a (cells ls) (cells (out before s))) (behind_by_name op ls s) mirrors.leaves,
         mirrors.writes,

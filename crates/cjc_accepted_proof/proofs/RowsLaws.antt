@@ -60,6 +60,29 @@ pub mapped_both : (f : Cell → Cell) (xs ys : List Cell) → map f (xs ++ ys) �
 mapped_both f [] ys = refl
 mapped_both f (x ∷ xs) ys = ap (λ zs. f x ∷ zs) (mapped_both f xs ys)
 
+-- ---- rules
+
+-- a frame that has what an instruction takes breaks no rule before it
+module _ (is_of : Subtype) (most : ℕ) (a : Act) (ls s : List Cell) (right : is_wrong is_of a ls s ≡ false)
+    (inside : is_off most a ls s ≡ false) (known : a.is_unknown ≡ false) (named : a.misnames ≡ false) where
+  pub none_breaks : (z : State) → z ≡ record { stack = Cells s; locals = ls } → (rule : ℕ) → Breaks is_of most a z rule
+      → ⊥
+  none_breaks z is rule (clash locals) = let e = ap (λ (v : State). v.stack) is in absurd cc
+  none_breaks z is rule (wrong t locals e) =
+      let stacks : Cells t ≡ Cells s = ap (λ (v : State). v.stack) is in
+      let same : t ≡ s = cc in
+      let no : is_wrong is_of a locals t ≡ false = ap (λ v. is_wrong is_of a v t) (ap (λ (v : State). v.locals) is)
+      ∙ ap (λ v. is_wrong is_of a ls v) same ∙ right in
+      absurd cc
+  none_breaks z is rule (off t locals e) =
+      let stacks : Cells t ≡ Cells s = ap (λ (v : State). v.stack) is in
+      let same : t ≡ s = cc in
+      let no : is_off most a locals t ≡ false = ap (λ v. is_off most a v t) (ap (λ (v : State). v.locals) is)
+      ∙ ap (λ v. is_off most a ls v) same ∙ inside in
+      absurd cc
+  none_breaks z is rule (unknown v e) = let no = known in absurd cc
+  none_breaks z is rule (misnamed v e) = let no = named in absurd cc
+
 -- ---- a row
 
 module _ (card_type : List ℕ → Option (List ℕ)) where
@@ -122,29 +145,11 @@ module _ (card_type : List ℕ → Option (List ℕ)) where
         ∙ ap (λ v. is_off_by_name b op ls s || v) mirrors.there
         ∙ ap (λ v. v || false) on
 
-    nothing_breaks : (z : State) → z ≡ card_state card_type closed x → (rule : ℕ) → Breaks is_of b.max_stack a z rule
-        → ⊥
-    nothing_breaks z is rule (clash locals) = let e = ap (λ (v : State). v.stack) is in absurd cc
-    nothing_breaks z is rule (wrong t locals e) =
-        let stacks : Cells t ≡ Cells (cells s) = ap (λ (v : State). v.stack) is in
-        let same : t ≡ cells s = cc in
-        let no : is_wrong is_of a locals t ≡ false = ap (λ v. is_wrong is_of a v t) (ap (λ (v : State). v.locals) is)
-        ∙ ap (λ v. is_wrong is_of a (cells ls) v) same ∙ not_wrong in
-        absurd cc
-    nothing_breaks z is rule (off t locals e) =
-        let stacks : Cells t ≡ Cells (cells s) = ap (λ (v : State). v.stack) is in
-        let same : t ≡ cells s = cc in
-        let no : is_off b.max_stack a locals t ≡ false = ap (λ v. is_off b.max_stack a v t) (ap (λ (v : State).
-        v.locals)
-        is) ∙ ap (λ v. is_off b.max_stack a (cells ls) v) same ∙ not_off in
-        absurd cc
-    nothing_breaks z is rule (unknown v e) = let no = mirrors.known in absurd cc
-    nothing_breaks z is rule (misnamed v e) = let no = mirrors.named in absurd cc
-
     pub row_stands : Stands is_of count b.max_stack a (card_state card_type closed x) (card_state card_type closed
         (steps.after op x))
     row_stands = record {
-      unbroken = nothing_breaks (card_state card_type closed x) refl;
+      unbroken = none_breaks is_of b.max_stack a (cells ls) (cells s) not_wrong not_off mirrors.known mirrors.named
+          (card_state card_type closed x) refl;
       goes = (cut_below (stack_behind a (cells ls) (cells s)) (behind_by_name op ls s) behind_below, mirrors.writes);
     }
 

@@ -103,7 +103,3 @@ module _ (p : Package) (m : Beside) where
       → HasRow m.rows at x → opened_in at ≡ closed → opened_in (suc at) ≡ closed
       → (let tree = m.tree in RowStands (card_type p) (is_of p) names_in (body_by_name m) m.rows opened_in step_in
       tree.max_locals tree.max_stack offset_in at (label_in i.at) i x)
-
--- so they do of each method
-abbrev pub AllStandAlone : Package → (codes : List MethodCode) → Type 0
-AllStandAlone p codes = (m : Beside) → IsBeside p m codes → RowsStandAlone p m

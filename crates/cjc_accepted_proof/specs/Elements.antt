@@ -5,7 +5,7 @@ use Rattle.cjc_types.specs.Bytecode.Jvm as jvm
 use Rattle.cjc_types.specs.Rules.{is_array_for}
 use Rattle.cjc_types.specs.World.Subtype.{starts}
 use Rattle.cjc_verify.specs.CardActs.CardTypes.{all_arrays, arrays_of}
-use Rattle.cjc_verify.specs.CardSemantics.Bytecode.Effects.{Letter, Byte, Reference, Short}
+use Rattle.cjc_verify.specs.CardSemantics.Bytecode.Effects.{Letter, Byte, Int, Reference, Short}
 use Rattle.cjc_frames.specs.Types.{begins_with, held}
 
 -- the letter of the card's load or store for that of the class file, of int none
@@ -26,12 +26,14 @@ pub record IsHeld (card_type : List ℕ → Option (List ℕ)) (name element : L
   pub typed : card_type inner ≡ Some element
 
 -- The types of arrays begin with the nibbles of arrays, those that a load or store by name serves with one of its
--- letter, and those of references hold what the arrays by name hold.
+-- letter, of int too, and those of references hold what the arrays by name hold.
 pub record ArraysAgree (card_type : List ℕ → Option (List ℕ)) : Type 0 where
   pub arrays : (name type : List ℕ) → card_type name ≡ Some type → starts 91 name ≡ true
       → begins_with all_arrays type ≡ true
   pub served : (opcode : ℕ) (name type : List ℕ) → card_type name ≡ Some type → works_on_int opcode ≡ false
       → is_array_for opcode name ≡ true
       → begins_with (arrays_of (letter_for opcode)) type ≡ true
+  pub ints : (opcode : ℕ) (name type : List ℕ) → card_type name ≡ Some type → works_on_int opcode ≡ true
+      → is_array_for opcode name ≡ true → begins_with (arrays_of Int) type ≡ true
   pub inside : (name type element : List ℕ) → card_type name ≡ Some type → held type ≡ Some element
       → IsHeld card_type name element

@@ -6,7 +6,7 @@ ghost use Rattle.cjc_accepted_proof.specs.Elements.{ArraysAgree};
 ghost use Rattle.cjc_accepted_proof.specs.Frames.{type_named};
 
 /// The card's types of arrays begin with the nibbles of arrays, each load and store by name is served by one of its
-/// letter, and those of references hold what the arrays by name hold.
+/// letter, of int too, and those of references hold what the arrays by name hold.
 pub fn types_of_arrays_agree()
     ensures { (w : List Class) (ref : List ℕ → ClassRef) → ArraysAgree (type_named w ref) }
 {}

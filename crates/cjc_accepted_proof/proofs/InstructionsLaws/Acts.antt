@@ -22,14 +22,14 @@ use Rattle.cjc_accepted_proof.specs.Plain.{IsStackOpcode, act_laid, dup, dup2, d
 use Rattle.cjc_accepted_proof.specs.Plain.{letter_moving, pop, pop2, swap}
 
 -- what holds of the first numbers
-by_four : (P : ℕ → Type 0) → P 0 → P 1 → P 2 → P 3 → (l : ℕ) → nat_le l 3 ≡ true → P l
+pub by_four : (P : ℕ → Type 0) → P 0 → P 1 → P 2 → P 3 → (l : ℕ) → nat_le l 3 ≡ true → P l
 by_four P a b c d zero e = a
 by_four P a b c d (suc zero) e = b
 by_four P a b c d (suc (suc zero)) e = c
 by_four P a b c d (suc (suc (suc zero))) e = d
 by_four P a b c d (suc (suc (suc (suc l)))) e = absurd (grind (arith, nat_tests, e))
 
-by_six : (P : ℕ → Type 0) → P 0 → P 1 → P 2 → P 3 → P 4 → P 5 → (l : ℕ) → nat_le l 5 ≡ true → P l
+pub by_six : (P : ℕ → Type 0) → P 0 → P 1 → P 2 → P 3 → P 4 → P 5 → (l : ℕ) → nat_le l 5 ≡ true → P l
 by_six P a b c d f g zero e = a
 by_six P a b c d f g (suc zero) e = b
 by_six P a b c d f g (suc (suc zero)) e = c

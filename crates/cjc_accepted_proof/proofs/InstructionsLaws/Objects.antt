@@ -149,7 +149,7 @@ module _ (card_type : List ℕ → Option (List ℕ)) (is_of : Subtype) where
     elements_own names t i = let r = element_of_name names t i in own_in (elements_by_name names []) r.0 t r.1 r.2
 
     -- what aaload gives
-    references_below : (x : Cell) → IsCellBelow (element_of (card_cell card_type x)) (card_cell card_type
+    pub references_below : (x : Cell) → IsCellBelow (element_of (card_cell card_type x)) (card_cell card_type
         (element_by_name jvm.aaload x))
     references_below Number = tt
     references_below Unusable = tt
@@ -274,6 +274,12 @@ module _ (card_type : List ℕ → Option (List ℕ)) (is_of : Subtype) where
       arrays_pass test pass none each name t f (its_own e) = each name t f e
       arrays_pass test pass none each name t f (thrown is e) = absurd (none (sym (ap test is) ∙ f))
 
+      -- an array
+      pub any_array_meets : (x : Cell) → all_types (starts 91) x ≡ true → meets is_of (OfArrays all_arrays) (card_cell
+          card_type x) ≡ true
+      any_array_meets x e = types_pass card_type (starts 91) (begins_with all_arrays) (arrays_pass (starts 91)
+          (begins_with all_arrays) (λ f. cc) (λ name t f g. arrays.arrays name t g f)) x e
+
       -- arraylength
       pub length_mirrors : (ls s : List Cell) → has_wrong_by_name w b jop.ArrayLength 1 0 s ≡ false
           → Mirrors card_type is_of jop.ArrayLength (record idle {
@@ -281,15 +287,21 @@ module _ (card_type : List ℕ → Option (List ℕ)) (is_of : Subtype) where
             gives = ANumber ∷ [];
           }) ls s
       length_mirrors = one_word_mirrors card_type is_of w b jop.ArrayLength (OfArrays all_arrays) ANumber Number refl
-          (λ ls s. refl) (λ ls s. refl) (λ ls s. tt) (λ x e. types_pass card_type (starts 91) (begins_with all_arrays)
-          (arrays_pass (starts 91) (begins_with all_arrays) (λ f. cc) (λ name t f g. arrays.arrays name t g f)) x e)
+          (λ ls s. refl) (λ ls s. refl) (λ ls s. tt) (λ x e. any_array_meets x e)
 
       -- an array that an instruction serves
-      array_meets : (opcode : ℕ) → works_on_int opcode ≡ false → (x : Cell) → all_types (is_array_for opcode) x ≡ true
-          → meets is_of (OfArrays (arrays_of (letter_for opcode))) (card_cell card_type x) ≡ true
+      pub array_meets : (opcode : ℕ) → works_on_int opcode ≡ false → (x : Cell) → all_types (is_array_for opcode) x
+          ≡ true → meets is_of (OfArrays (arrays_of (letter_for opcode))) (card_cell card_type x) ≡ true
       array_meets opcode short x e = types_pass card_type (is_array_for opcode) (begins_with (arrays_of (letter_for
           opcode))) (arrays_pass (is_array_for opcode) (begins_with (arrays_of (letter_for opcode))) (not_array opcode)
           (λ name t f g. arrays.served opcode name t g short f)) x e
+
+      -- an array of int
+      pub ints_meet : (opcode : ℕ) → works_on_int opcode ≡ true → (x : Cell) → all_types (is_array_for opcode) x ≡ true
+          → meets is_of (OfArrays (arrays_of letters.Int)) (card_cell card_type x) ≡ true
+      ints_meet opcode on_int x e = types_pass card_type (is_array_for opcode) (begins_with (arrays_of letters.Int))
+          (arrays_pass (is_array_for opcode) (begins_with (arrays_of letters.Int)) (not_array opcode)
+          (λ name t f g. arrays.ints opcode name t g on_int f)) x e
 
       -- aaload, baload and saload
       pub item_mirrors : (opcode : ℕ) → works_on_int opcode ≡ false → (ls s : List Cell)

@@ -248,7 +248,7 @@ module _ (p : Package) (facts : Facts p) (subtypes : KeepsSubtypes (world p)) (t
       ∙ selected_taken m.class m d known class_here plain s sig stands.foot f sel
 
   -- the method of a token: one that a class declares, or got
-  held_words : (m : MemberId) → is_initialiser m.name ≡ false → (s : Signature) → signature_of m.desc ≡ Some s
+  pub held_words : (m : MemberId) → is_initialiser m.name ≡ false → (s : Signature) → signature_of m.desc ≡ Some s
       → (z : List ℕ) (f : Found) → (f.imported ≡ false → Holder p facts (signature m) f)
       → card.words_of (loaded p) true (selection_of n (method_offset p) z (signature m) f) ≡ Some (words_with true m)
   held_words m plain s sig z f holds = by f.imported refl
