@@ -36,14 +36,14 @@ use cjc_shape_proof::written::{
 use std::alloc::Global;
 
 /// The constant pool of methods that are few enough for one.
-fn pool_of(alloc: Global, judged: &Judged<'_>, shaped: &Shaped) -> Result<Pool, NoMemory>
-    ensures { IfOk result (IsPool judged.now.world shaped.now.tokens shaped.now.methods.codes) }
+fn pool_of(alloc: Global, judged: &Judged<'_>, shaped: &Shaped<'_>) -> Result<Pool, NoMemory>
+    ensures { IfOk result (IsPool judged.now.world shaped.now.tokens.now shaped.now.methods.codes) }
 {
     match cjc_captree::pool::build(
         alloc,
         judged.list.name.items(),
         &judged.world,
-        &shaped.tokens,
+        shaped.tokens,
         &shaped.methods.codes,
     ) {
         Ok(pool) => Ok(pool),
@@ -55,7 +55,7 @@ fn pool_of(alloc: Global, judged: &Judged<'_>, shaped: &Shaped) -> Result<Pool, 
 fn components_with(
     alloc: Global,
     judged: &Judged<'_>,
-    shaped: &Shaped,
+    shaped: &Shaped<'_>,
     keys: &[PoolKey],
     offsets: &[u32],
     written: Written,
@@ -72,12 +72,12 @@ fn components_with(
 {
     converted_classes_are_ordered();
     let extents = extents(alloc, &judged.world, &shaped.methods, offsets)?;
-    let tokens = key_tokens(alloc, &judged.world, &shaped.tokens, keys)?;
+    let tokens = key_tokens(alloc, &judged.world, shaped.tokens, keys)?;
     let order = class_order(alloc, &judged.world, false)?;
     let given = Given {
         list: judged.list,
         world: &judged.world,
-        tokens: &shaped.tokens,
+        tokens: shaped.tokens,
         order: order.items(),
         image: &shaped.image,
         keys,
@@ -105,7 +105,11 @@ fn set_mode(cap: &mut CapTree, in_int_mode: bool)
 /// # Errors
 ///
 /// 411 or 416, whichever is the first broken one.
-pub(crate) fn build(alloc: Global, judged: &Judged<'_>, shaped: &Shaped) -> Result<CapTree, Fault>
+pub(crate) fn build(
+    alloc: Global,
+    judged: &Judged<'_>,
+    shaped: &Shaped<'_>,
+) -> Result<CapTree, Fault>
     requires read { IsRead judged.now.list.now }
     requires sound { BreaksNothing judged.now }
     requires shaped { IsShaped judged.now shaped.now }

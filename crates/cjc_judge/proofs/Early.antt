@@ -74,7 +74,7 @@ asked asks (x ∷ gs) (suc i) g at is = either_true (asks x) (list_any asks gs) 
     either_true true b e = refl
     either_true false b e = e
 
-not_both : {P : Type 0} (b : Bool) → b ≡ false → b ≡ true → P
+pub not_both : {P : Type 0} (b : Bool) → b ≡ false → b ≡ true → P
 not_both b e f = absurd (let g : false ≡ true = sym e ∙ f in cc)
 
 pub no_tables : (tested : List Group) (world : Files) (codes : List MethodCode) (tables : List TypeTable)

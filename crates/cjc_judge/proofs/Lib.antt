@@ -12,6 +12,7 @@ pub mod Moded
 pub mod Whole
 pub mod Each
 pub mod Early
+pub mod Assigned
 pub mod Places
 pub mod ToldWorld
 pub mod ToldRules

@@ -21,9 +21,10 @@ use Rattle.cjc_judge.specs.declared.reading.Trees.{Trees}
 use Rattle.cjc_clinit.specs.Bytecode.PackageCodes.{all_codes}
 use Rattle.cjc_judge.specs.Codes.{all_unsupported_insns}
 use Rattle.cjc_judge.specs.Judged.{IsJudged, IsStopped}
-use Rattle.cjc_judge.specs.Rules.{world_files, files_spelt, IsFirstFault}
+use Rattle.cjc_judge.specs.Rules.{world_files, files_spelt, has_applets, IsFirstFault}
 use Rattle.cjc_judge.specs.Spelt.{classes_of, IsRead}
 use Rattle.cjc_judge.specs.Modes.{AreModesWhereNamed}
+use Rattle.cjc_judge.specs.Tokens.{AreTokensWhereNamed}
 use Rattle.cjc_judge.specs.Types.{AreTablesWhereNamed}
 use Rattle.cjc_judge.specs.Working.Reading.{IsReadAs, ReadsFiles}
 use Rattle.cjc_judge.specs.Working.Groups.{WorldBreaksAny}
@@ -152,8 +153,9 @@ module _ (list : ListTree) (files : List (List ℕ)) (tested : List Group) (read
         pub judged_from : (judged : Judged) → judged.world ≡ world → judged.codes ≡ read.codes
             → ((b : Break) → WorldBreaksAny list world read.codes read.unsupported_insns tested b → ⊥)
             → AreTablesWhereNamed tested world read.codes judged.types
-            → AreModesWhereNamed tested list.ints world read.codes judged.modes → IsJudged list files tested judged
-        judged_from judged w k none tables modes = record {
+            → AreModesWhereNamed tested list.ints world read.codes judged.modes
+            → AreTokensWhereNamed tested (has_applets list) world judged.tokens → IsJudged list files tested judged
+        judged_from judged w k none tables modes tokens = record {
           unbroken = none_broken list files tested all.trees all.spelt spelt_fine spelt_named
               (subst (λ (G : Break → Type 0). (b : Break) → G b → ⊥) groups_spelt none);
           world = w ∙ made ∙ sym (ap (λ (cs : List ClassTree). world_files list cs read.exports) classes)
@@ -172,6 +174,7 @@ module _ (list : ListTree) (files : List (List ℕ)) (tested : List Group) (read
           modes = subst (λ (v : Files). AreModesWhereNamed tested list.ints v judged.codes judged.modes) (sym w)
               (subst (λ (cs : List MethodCode). AreModesWhereNamed tested list.ints world cs judged.modes) (sym k)
               modes);
+          tokens = subst (λ (v : Files). AreTokensWhereNamed tested (has_applets list) v judged.tokens) (sym w) tokens;
         }
           where
             is_read : judged.world ≡ WorldFiles list read

@@ -8,9 +8,10 @@ use Rattle.cjc_narrow.specs.Types.Tables.{IsOfPackage}
 use Rattle.cjc_bytes.specs.Breaks.{Break}
 use Rattle.cjc_judge.specs.declared.groups.Group.{Group}
 use Rattle.cjc_judge.specs.declared.judged.Judged.{Judged}
-use Rattle.cjc_judge.specs.Rules.{Breach, IsFirstBroken, world_files}
+use Rattle.cjc_judge.specs.Rules.{Breach, IsFirstBroken, has_applets, world_files}
 use Rattle.cjc_judge.specs.Trees.{AreRead}
 use Rattle.cjc_judge.specs.Modes.{AreModesWhereNamed}
+use Rattle.cjc_judge.specs.Tokens.{AreTokensWhereNamed}
 use Rattle.cjc_judge.specs.Types.{AreTablesWhereNamed}
 
 -- The package breaks no rule that was tested. Its world is that of the list with the classes and the export files that
@@ -23,6 +24,7 @@ pub record IsJudged (list : ListTree) (files : List (List ℕ)) (tested : List G
   pub of_package : All (IsOfPackage judged.world) judged.codes
   pub types : AreTablesWhereNamed tested judged.world judged.codes judged.types
   pub modes : AreModesWhereNamed tested list.ints judged.world judged.codes judged.modes
+  pub tokens : AreTokensWhereNamed tested (has_applets list) judged.world judged.tokens
 
 -- The error is that of the first broken rule, or that memory ran out.
 abbrev pub IsStopped : ListTree → List (List ℕ) → List Group → Fault → Type 0

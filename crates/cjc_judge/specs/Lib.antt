@@ -3,6 +3,7 @@ pub mod Spelt
 pub mod Rules
 pub mod Trees
 pub mod Types
+pub mod Tokens
 pub mod Judged
 pub mod Modes
 pub mod Joint

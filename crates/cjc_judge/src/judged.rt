@@ -18,13 +18,13 @@ use cjc_int_mode::modes::Mode;
 use cjc_list::List;
 use cjc_vtable::bytecode::Codes;
 use cjc_vtable::subset::names;
+use cjc_vtable::tokens::Tokens;
 use cjc_world::World;
 use cjc_world::classfile::ClassTree;
 use cjc_world::export_file::ExportTree;
 use std::alloc::Global;
 
 /// A package that breaks no rule of those that it was tested for.
-#[derive(Drop)]
 pub struct Judged<'a> {
     /// Its list.
     pub list: &'a List,
@@ -38,6 +38,22 @@ pub struct Judged<'a> {
     pub types: Row<TypeTable>,
     /// The mode of each of these methods, where ranges were tested; short mode of an initialiser.
     pub modes: Row<Mode>,
+    /// The tokens of its classes and members, and of those that export files describe, where 413 was tested.
+    pub tokens: Option<Tokens>,
+}
+
+impl Drop for Judged<'_> {
+    fn drop(self) {
+        let Judged {
+            list: _list,
+            files: _files,
+            world: _world,
+            codes: _codes,
+            types: _types,
+            modes: _modes,
+            tokens: _tokens,
+        } = self;
+    }
 }
 
 // The lines of a list that name files, in memory of their own.
@@ -121,7 +137,11 @@ pub fn judge<'a>(
     } = read_files(alloc, list.lines.items(), files.items())?;
     let world = world_of(alloc, list, classes, exports)?;
     names(alloc, list.name.items(), &world, &codes)?;
-    let Told { types, modes } = test(
+    let Told {
+        types,
+        modes,
+        tokens,
+    } = test(
         alloc,
         list,
         &world,
@@ -136,5 +156,6 @@ pub fn judge<'a>(
         codes,
         types,
         modes,
+        tokens,
     })
 }

@@ -2,7 +2,7 @@
 //! the card leaves out, limits, tokens, types, and ranges. Called by judged.rt.
 
 ghost use Rattle.std.specs.Prelude.{◌≡◌, ◌≤◌, All, IfOk, IfErr, IfNone, OnOk, [], List as Items, length, nat_lt};
-ghost use Rattle.std.specs.Prelude.{option_map};
+ghost use Rattle.std.specs.Prelude.{option_map, Some, true};
 ghost use Rattle.cjc_bytes.specs.Told.{break_of};
 ghost use Rattle.cjc_bytes.specs.Breaks.{Among, IsFirstOf, Break as Broken};
 ghost use Rattle.cjc_world.specs.ClassFile.Code.{CodeTree};
@@ -10,11 +10,14 @@ ghost use Rattle.cjc_world.specs.ClassFile.declared.tree.ClassTree.{ClassTree};
 ghost use Rattle.cjc_world.specs.ClassFile.declared.tree.MethodTree.{MethodTree};
 ghost use Rattle.cjc_narrow.specs.Types.Tables.{IsMethodOf, IsOfPackage};
 ghost use Rattle.cjc_vtable.specs.LowerTokens.Members.{is_initialiser};
-ghost use Rattle.cjc_vtable.specs.LowerTokens.Rules.{tested_breaks};
+ghost use Rattle.cjc_vtable.specs.LowerTokens.Rules.{is_few, tested_breaks};
+ghost use Rattle.cjc_vtable.specs.LowerTokens.Tokens.{assigned};
 ghost use Rattle.cjc_judge.specs.Rules.{unsupported_break, unsupported_breaks, settings_of, method_break, BreaksType};
+ghost use Rattle.cjc_judge.specs.Rules.{has_applets};
 ghost use Rattle.cjc_judge.specs.Rules.{BreaksAnyType, BreaksRange, BreaksAnyRange, IsFirstIn, IsFirstFault};
 ghost use Rattle.cjc_judge.specs.Rules.{IsOfThirdHundred};
 ghost use Rattle.cjc_judge.specs.Modes.{AreModes, AreModesWhereNamed, may_be_int};
+ghost use Rattle.cjc_judge.specs.Tokens.{AreTokensWhereNamed, asks_tokens};
 ghost use Rattle.cjc_judge.specs.Types.{AreTables, AreTablesWhereNamed, IsTableOf, asks_ranges, asks_types};
 ghost use Rattle.std.specs.List.{list_any};
 ghost use Rattle.cjc_judge.specs.Working.Groups.{EarlyBreaks, EarlyBreaksAny, NamedTypeBreaks, NamedRangeBreaks};
@@ -29,9 +32,10 @@ use cjc_bytes::{
 use cjc_flow::types::{InferError, TypeTable, infer_method};
 use cjc_int_mode::modes::Mode;
 use cjc_list::List;
+use cjc_tokens::few;
 use cjc_vtable::bytecode::{Codes, MethodCode};
 use cjc_vtable::subset::{class_spot, first_broken, method_spot};
-use cjc_vtable::tokens::first_high;
+use cjc_vtable::tokens::{Tokens, assign, first_high};
 use cjc_world::World;
 use std::alloc::Global;
 
@@ -111,6 +115,48 @@ fn tokens_break<'w>(
                 rule: 413,
                 spot: class_spot(file, class),
             }))
+        }
+    }
+}
+
+// What assigning its tokens tells of a package.
+struct Assigning<'w> {
+    // The tokens, where they were asked for and none is too high.
+    tokens: Option<Tokens>,
+    // Rule 413 in the first class that breaks it.
+    broken: Option<Break<'w>>,
+}
+
+// The tokens of a package, or rule 413. There are none where 401 or 406 is broken, on which tokens stand.
+fn assign_tokens<'w>(
+    alloc: Global,
+    world: &'w World<'_>,
+    settings: &Settings,
+) -> Result<Assigning<'w>, NoMemory>
+    ensures first { IfOk result (λ a. IsFirstOf (tested_breaks (nat_lt 0 (length settings.now.applets)) world.now)
+        (option_map break_of a.broken)) }
+    ensures tokens { IfOk result (λ a. is_few (nat_lt 0 (length settings.now.applets)) world.now ≡ true
+        → tested_breaks (nat_lt 0 (length settings.now.applets)) world.now ≡ []
+        → a.tokens ≡ Some (assigned (nat_lt 0 (length settings.now.applets)) world.now)) }
+{
+    if !few(world, settings)? {
+        return Ok(Assigning {
+            tokens: None,
+            broken: None,
+        });
+    }
+    match assign(alloc, world, settings) {
+        Ok(tokens) => Ok(Assigning {
+            tokens: Some(tokens),
+            broken: None,
+        }),
+        Err(Fault::NoMemory) => Err(NoMemory),
+        Err(Fault::Refused(_)) => {
+            let broken = tokens_break(alloc, world, settings)?;
+            Ok(Assigning {
+                tokens: None,
+                broken,
+            })
         }
     }
 }
@@ -258,8 +304,8 @@ fn of_third_hundred<'w>(broken: Option<Break<'w>>) -> Option<Break<'w>>
     }
 }
 
-// What of a group is broken first. Types and ranges are left to `named_types` and `named_modes`: every rule of
-// another group stands before theirs.
+// What of a group is broken first, where this is what the package breaks of 413, if the group asks for tokens. Types and
+// ranges are left to `named_types` and `named_modes`: every rule of another group stands before theirs.
 fn group_break<'w>(
     alloc: Global,
     list: &'w List,
@@ -267,10 +313,13 @@ fn group_break<'w>(
     codes: &Codes,
     unsupported_insns: &[UnsupportedInsn],
     settings: &Settings,
+    high: Option<Break<'w>>,
     group: Group,
 ) -> Result<Option<Break<'w>>, NoMemory>
     requires codes { All (IsOfPackage world.now) codes.now }
     requires settings { settings.now ≡ settings_of list.now }
+    requires high { asks_tokens group ≡ true → IsFirstOf (tested_breaks (has_applets list.now) world.now)
+        (option_map break_of high) }
     ensures { IfOk result (λ b. IsFirstIn (EarlyBreaks list.now world.now codes.now unsupported_insns.now group)
         (option_map break_of b)) }
 {
@@ -282,25 +331,30 @@ fn group_break<'w>(
         }
         Group::Initialisers => cjc_clinit::first_broken(alloc, world, codes),
         Group::Limits => first_broken(alloc, list.name.items(), world, codes, settings),
-        Group::Tokens => tokens_break(alloc, world, settings),
+        Group::Tokens => Ok(high),
         Group::Types | Group::Ranges => Ok(None),
     }
 }
 
-// What of some groups is broken first, but for types and ranges.
+// What of some groups is broken first, but for types and ranges, where this is what the package breaks of 413, if one of
+// them asks for tokens.
 fn groups_break<'w>(
     alloc: Global,
     list: &'w List,
     world: &'w World<'_>,
     codes: &Codes,
     unsupported_insns: &[UnsupportedInsn],
+    settings: &Settings,
+    high: Option<Break<'w>>,
     groups: &[Group],
 ) -> Result<Option<Break<'w>>, NoMemory>
-    requires { All (IsOfPackage world.now) codes.now }
+    requires codes { All (IsOfPackage world.now) codes.now }
+    requires settings { settings.now ≡ settings_of list.now }
+    requires high { list_any asks_tokens groups.now ≡ true → IsFirstOf (tested_breaks (has_applets list.now) world.now)
+        (option_map break_of high) }
     ensures { IfOk result (λ b. IsFirstIn (EarlyBreaksAny list.now world.now codes.now unsupported_insns.now groups.now)
         (option_map break_of b)) }
 {
-    let settings = settings(alloc, list)?;
     let mut least = None;
     for group in groups {
         let broken = group_break(
@@ -309,12 +363,22 @@ fn groups_break<'w>(
             world,
             codes,
             unsupported_insns,
-            &settings,
+            settings,
+            high,
             *group,
         )?;
         least = first(least, broken);
     }
     Ok(least)
+}
+
+fn asks_tokens(group: Group) -> bool
+    ensures { result ≡ asks_tokens group }
+{
+    match group {
+        Group::Tokens => true,
+        _ => false,
+    }
 }
 
 fn asks_types(group: Group) -> bool
@@ -333,6 +397,18 @@ fn asks_ranges(group: Group) -> bool
         Group::Ranges => true,
         _ => false,
     }
+}
+
+// Whether one of the groups asks for tokens.
+fn any_asks_tokens(groups: &[Group]) -> bool
+    ensures { result ≡ list_any asks_tokens groups.now }
+{
+    for group in groups {
+        if asks_tokens(*group) {
+            return true;
+        }
+    }
+    false
 }
 
 // Whether one of the groups asks for types.
@@ -357,6 +433,27 @@ fn any_asks_ranges(groups: &[Group]) -> bool
         }
     }
     false
+}
+
+// The tokens of a package, or rule 413, where one of the groups asks for tokens.
+fn named_tokens<'w>(
+    alloc: Global,
+    world: &'w World<'_>,
+    settings: &Settings,
+    groups: &[Group],
+) -> Result<Assigning<'w>, NoMemory>
+    ensures first { IfOk result (λ a. list_any asks_tokens groups.now ≡ true
+        → IsFirstOf (tested_breaks (nat_lt 0 (length settings.now.applets)) world.now) (option_map break_of a.broken)) }
+    ensures tokens { IfOk result (λ a. tested_breaks (nat_lt 0 (length settings.now.applets)) world.now ≡ []
+        → AreTokensWhereNamed groups.now (nat_lt 0 (length settings.now.applets)) world.now a.tokens) }
+{
+    if !any_asks_tokens(groups) {
+        return Ok(Assigning {
+            tokens: None,
+            broken: None,
+        });
+    }
+    assign_tokens(alloc, world, settings)
 }
 
 // The types of all methods, where one of the groups asks for them.
@@ -410,10 +507,13 @@ pub(crate) struct Told {
     pub types: Row<TypeTable>,
     /// Their modes, where a group asks for ranges.
     pub modes: Row<Mode>,
+    /// The tokens of the package, where a group asks for them.
+    pub tokens: Option<Tokens>,
 }
 
 /// Tests a world, whose methods have these codes and break 303 at these places, for groups of rules. A refusal
-/// is the first of what is broken; else these are the types and the modes of all methods, where a group asks for them.
+/// is the first of what is broken; else these are the types and the modes of all methods and the tokens, where a group
+/// asks for them.
 /// Types are inferred only where no other rule is broken, so that what inference costs is bounded by the limits of
 /// methods; and ranges are found over types that break no rule.
 pub(crate) fn test(
@@ -428,14 +528,33 @@ pub(crate) fn test(
     ensures types { IfOk result (λ told. AreTablesWhereNamed groups.now world.now codes.now told.types) }
     ensures modes { IfOk result (λ told. (let l = list.now in AreModesWhereNamed groups.now l.ints world.now codes.now
         told.modes)) }
+    ensures tokens { IfOk result (λ told. AreTokensWhereNamed groups.now (has_applets list.now) world.now told.tokens) }
     ensures unbroken { OnOk result ((b : Broken) → WorldBreaksAny list.now world.now codes.now unsupported_insns.now
         groups.now b → ⊥) }
     ensures refused { IfErr result (IsFirstFault (WorldBreaksAny list.now world.now codes.now unsupported_insns.now
         groups.now)) }
 {
-    let broken = groups_break(alloc, list, world, codes, unsupported_insns, groups)?;
+    let settings = settings(alloc, list)?;
+    let Assigning {
+        tokens,
+        broken: high,
+    } = named_tokens(alloc, world, &settings, groups)?;
+    let broken = groups_break(
+        alloc,
+        list,
+        world,
+        codes,
+        unsupported_insns,
+        &settings,
+        high,
+        groups,
+    )?;
     answer(alloc, broken)?;
     let types = named_types(alloc, world, codes, groups)?;
     let modes = named_modes(alloc, list.ints, world, codes, &types, groups)?;
-    Ok(Told { types, modes })
+    Ok(Told {
+        types,
+        modes,
+        tokens,
+    })
 }

@@ -16,7 +16,7 @@ module _ (j : Judged) (s : Shaped) (h : IsShaped j s) where
   pub its_codes : (let m = s.methods in m.codes) ≡ codes (package_of j s)
   its_codes = let m = s.methods in sym (codes_of m.codes m.laid h.laid.count)
 
-  pub its_pool : (pool : PoolView) → (let m = s.methods in IsPool j.world s.tokens m.codes pool)
+  pub its_pool : (pool : PoolView) → (let m = s.methods in IsPool j.world s.tokens.now m.codes pool)
       → IsPool j.world (tokens (package_of j s)) (codes (package_of j s)) pool
   its_pool pool is =
       subst (λ (cs : List NMethod). IsPool j.world (tokens (package_of j s)) cs pool) its_codes

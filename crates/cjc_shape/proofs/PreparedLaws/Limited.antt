@@ -70,10 +70,10 @@ module _ (name : List ℕ) (w : Files) (codes : List MethodCode) (settings : Set
   pub few_cells : FewCells w
   few_cells k d l = few_cells_at k (get_or w.classes k d) (slice_get-get_or w.classes k d l)
 
+  pub few : is_few has_applets w ≡ true
+  few = and_from (has_few_exported has_applets w) (list_all has_few_cells w.classes) (at_most _ 255 few_exported)
+      (cells_all w.classes few_cells_at)
+
   pub has_tokens : tested_breaks has_applets w ≡ [] → token_breaks has_applets w ≡ []
   unfolding tested_breaks
-  has_tokens none =
-      let few : is_few has_applets w ≡ true = and_from (has_few_exported has_applets w)
-      (list_all has_few_cells w.classes)
-      (at_most _ 255 few_exported) (cells_all w.classes few_cells_at) in
-      tokens_where (is_few has_applets w) (token_breaks has_applets w) none few
+  has_tokens none = tokens_where (is_few has_applets w) (token_breaks has_applets w) none few

@@ -32,6 +32,7 @@ use Rattle.cjc_narrow_proof.specs.Laws.Unbroken.{IsUnbroken, NoneWorksOnInt}
 use Rattle.cjc_narrow_proof.proofs.LawsLaws.Own.{flags_by_name}
 use Rattle.cjc_methods.specs.Subset.Places.{at_method, of_class, of_method}
 use Rattle.cjc_methods.specs.Tokens.Rules.{FewCells, FewExported, tested_breaks, token_breaks}
+use Rattle.cjc_methods.specs.Tokens.Tokens.{assigned}
 use Rattle.cjc_exported.specs.World.Files.{Files}
 use Rattle.cjc_exported.specs.World.Rules.{breaks}
 use Rattle.cjc_shape.specs.Prepared.{IsSound, tested}
@@ -127,6 +128,11 @@ module _ (list : ListTree) (files : List (List ℕ)) (judged : Judged) (is : IsS
       (λ b among. is.judged_by.unbroken b (of_group (3, groups.Tokens, refl, (trees, world, among)))) in
       limited.has_tokens list.name w judged.codes (settings_of list) (judged_checks list files judged is_tested)
       (ap (tested_breaks (has_applets list)) same ∙ none)
+
+  -- they were assigned when 413 was tested
+  pub are_assigned : judged.tokens ≡ Some (assigned (has_applets list) judged.world)
+  are_assigned = is.judged_by.tokens refl (limited.few list.name w judged.codes (settings_of list)
+      (judged_checks list files judged is_tested))
 
   -- ---- the methods
 

@@ -52,7 +52,7 @@ module _ (list : ListTree) (files : List (List ℕ)) (judged : Judged) (is : IsS
 
   module _ (t : Tables) (has : HasModes list.ints judged.world t) where
     -- one that is not in int mode
-    free_by : (k : ℕ) (code : MethodCode) → slice_get judged.codes k ≡ Some code
+    pub free_by : (k : ℕ) (code : MethodCode) → slice_get judged.codes k ≡ Some code
         → (class : ClassTree) (method : MethodTree) (tree : CodeTree) → IsMethodOf judged.world code class method tree
         → is_initialiser method.name ≡ false → t.mode (method_by class method (Some tree)) ≡ modes.Short
         → code_works_on_int judged.world code ≡ false

@@ -119,7 +119,7 @@ module _ (j : Judged) (is : BreaksNothing j) (t : Tables)
     (has : HasModes (let list = j.list.now in list.ints) j.world t) where
   pub shaped : (s : Shaped) (members : List Found) (narrow : List NMethod)
       → members ≡ fs j.list.now j.files.now j is → narrow ≡ narrow_codes j.list.now j.files.now j is t has
-      → s.tokens ≡ assigned (has_applets j.list.now) j.world → IsImage j.world j.codes s.image
+      → s.tokens.now ≡ assigned (has_applets j.list.now) j.world → IsImage j.world j.codes s.image
       → AreOf j.world members narrow s.methods
       → ((p : Package) → p.list ≡ j.list.now → p.files ≡ j.world → s.export ≡ export_of p)
       → s.in_int_mode ≡ list_any (λ f. is_in_int_mode t (method_at j.world f)) members

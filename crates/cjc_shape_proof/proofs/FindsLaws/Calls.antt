@@ -131,7 +131,7 @@ module _ (list : List ℕ) (files : Files) (codes : List MethodCode) (settings :
   middle false true c e = absurd cc
   middle false false c e = e
 
-  named_call : (class : ClassTree) (op : ℕ) (id : MemberId) → IsInsnOf files codes class (jop.Call op id)
+  pub named_call : (class : ClassTree) (op : ℕ) (id : MemberId) → IsInsnOf files codes class (jop.Call op id)
       → IsNamedCall class op id
   unfolding names_missing names_unfit names_unsupported subset.hit
   named_call class op id at =
@@ -404,7 +404,7 @@ module _ (list : List ℕ) (files : Files) (codes : List MethodCode) (settings :
       }
 
   -- 206: what is selected above the class is no abstract method
-  code_above : (x name desc : List ℕ) → is_bodiless (subset.hit w false (selected w x name desc)) ≡ false
+  pub code_above : (x name desc : List ℕ) → is_bodiless (subset.hit w false (selected w x name desc)) ≡ false
       → HasCode w x name desc
   unfolding subset.hit
   code_above x name desc e = by (selected w x name desc) refl e

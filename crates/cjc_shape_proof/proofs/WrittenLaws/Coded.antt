@@ -147,6 +147,7 @@ pub record IsCoded (files : Files) (codes : List MethodCode) (m : LaidMethod) : 
   pub tree : CodeTree
   pub of : IsMethodOf files code class method tree
   pub number : code.class ≡ (let f = m.member in f.class)
+  pub place : code.method ≡ (let f = m.member in f.member - length class.fields)
   pub listed : Contains codes code
   pub insns : (let x = method_by class method (Some tree) in x.insns) ≡ code.insns
   pub known : method_at files m.member ≡ Some (method_by class method (Some tree))
@@ -283,6 +284,7 @@ module _ (list : ListTree) (codes : List MethodCode) (p : Package) (is : IsCheck
                 tree = tree;
                 of = of;
                 number = refl;
+                place = refl;
                 listed = listed code h.class x tree of;
                 insns = ap insns_of d.decodes;
                 known = at_tree (Some x) g ∙ ap (λ o. Some (method_by h.class x o)) c;
@@ -326,7 +328,7 @@ module _ (list : ListTree) (codes : List MethodCode) (p : Package) (is : IsCheck
               ∙ h.plain x g
 
       -- its code is in the class
-      coded_class : (c : IsCoded p.files codes m) → (let q = holder k m e in q.class) ≡ c.class
+      pub coded_class : (c : IsCoded p.files codes m) → (let q = holder k m e in q.class) ≡ c.class
       coded_class c =
           let both : Some h.class ≡ Some c.class = sym h.is_class ∙ ap (slice_get (let w = p.files in w.classes))
           (sym c.number) ∙ (let o = c.of in o.is_class) in

@@ -52,4 +52,5 @@ returns-clause-judged c =
       codes = c.in_ok-classes.field-0.codes;
       types = c.in_ok-types.field-0.types;
       modes = c.in_ok-types.field-0.modes;
-    }) refl refl none c.in_ok-types.ensures.types c.in_ok-types.ensures.modes
+      tokens = c.in_ok-types.field-0.tokens;
+    }) refl refl none c.in_ok-types.ensures.types c.in_ok-types.ensures.modes c.in_ok-types.ensures.tokens

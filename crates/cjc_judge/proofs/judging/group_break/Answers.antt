@@ -1,6 +1,7 @@
-use Rattle.std.proofs.Common.{inl, inr}
+use Rattle.std.proofs.Common.{inl, inr, ap}
 use Rattle.std.specs.Prelude.{option_map}
 use Rattle.cjc_bytes.specs.Told.{break_of}
+use Rattle.cjc_judge.specs.Tokens.{asks_tokens}
 use Rattle.cjc_judge.proofs.Families.{checks_language}
 use Rattle.cjc_judge.proofs.Folds.{as_list, if_list}
 use Rattle.cjc_judge.proofs.Early.{none_early}
@@ -24,8 +25,7 @@ returns-in-Limits c = rw c.in-Limits.is (if_list break_of _ c.first_broken-in-Li
     (rw (c.items-in-Limits.ensures, c.requires.settings) at c.first_broken-in-Limits.ensures))
 
 pub returns-in-Tokens : goal.returns-in-Tokens
-returns-in-Tokens c = rw c.in-Tokens.is (if_list break_of _ c.tokens_break.result (rw c.requires.settings at
-    c.tokens_break.ensures))
+returns-in-Tokens c = rw c.in-Tokens.is (as_list _ _ (c.requires.high (ap asks_tokens c.in-Tokens.is)))
 
 pub returns-in-Types : goal.returns-in-Types
 returns-in-Types c = elim c.in-Types.is [ inl e ↦ rw e none_early | inr e ↦ rw e none_early ]

@@ -1,9 +1,18 @@
 use Rattle.std.specs.Prelude.{option_map}
 use Rattle.cjc_bytes.specs.Told.{break_of}
-use Rattle.cjc_bytes.proofs.Gets.{same_item}
+use Rattle.cjc_bytes.proofs.Gets.{same_item, slice_get_at}
+use Rattle.cjc_judge.specs.Tokens.{asks_tokens}
 use Rattle.cjc_judge.specs.Working.Groups.{EarlyBreaks}
+use Rattle.cjc_judge.proofs.Early.{asked}
 use Rattle.cjc_judge.proofs.Folds.{none_below, more_below, all_below}
 use Rattle.cjc_judge.proofs.judging.groups_break.Goals as goal
+
+pub group_break-requires-clause-high : goal.group_break-requires-clause-high
+group_break-requires-clause-high c = λ asks.
+    let groups = c.args.groups.now in
+    let k = c.loop-group.group-index in
+    let lt = c.loop-group-test.true in
+    c.requires.high (asked asks_tokens groups k _ (slice_get_at groups k _ lt (same_item groups k _ lt)) asks)
 
 pub loop-group-init : goal.loop-group-init
 loop-group-init c = none_below (EarlyBreaks c.args.list.now c.args.world.now c.args.codes.now

@@ -26,7 +26,7 @@ package_of j s = record {
 -- It is the package of the list and its files, each method by its mode, and breaks none of 417, 311, 414 and 415.
 pub record IsShaped (j : Judged) (s : Shaped) : Type 0 where
   pub is_package : IsPackageByModesOf j.list.now j.files.now (package_of j s)
-  pub by_tokens : s.tokens ≡ tokens (package_of j s)
+  pub by_tokens : s.tokens.now ≡ tokens (package_of j s)
   pub laid : AreLaid s.methods
   pub by_export : s.export ≡ export_of (package_of j s)
   pub by_mode : s.in_int_mode ≡ has_int_mode is_package.tables (package_of j s)
