@@ -114,7 +114,7 @@ module _ (list : ListTree) (codes : List MethodCode) (t : Tables) (p : Package) 
       listed : Contains (all_codes (let w = p.files in w.classes)) c.code
       listed = subst (λ cs. Contains cs c.code) is.checked.codes_are c.listed
 
-      least : IsLeastTable (body_of c.class c.method c.tree (let d = c.code in d.insns)) (t.types x)
+      pub least : IsLeastTable (body_of c.class c.method c.tree (let d = c.code in d.insns)) (t.types x)
       least = (is.least c.code c.class c.method c.tree listed c.of).0
 
       -- outside int mode it works on no int
@@ -128,8 +128,8 @@ module _ (list : ListTree) (codes : List MethodCode) (t : Tables) (p : Package) 
               is.checked.checks ints c.code c.class c.method c.tree c.listed c.of c.plain
 
       -- 417
-      room : t.mode x ≡ modes.Int → IsRoom (body_of c.class c.method c.tree (let d = c.code in d.insns)) (t.types x)
-          modes.Int true
+      pub room : t.mode x ≡ modes.Int → IsRoom (body_of c.class c.method c.tree (let d = c.code in d.insns))
+          (t.types x) modes.Int true
       room mode =
           let none = none_broken p (own_at list codes p is.checked are_methods) (word_breaks_by_modes t p) is.words k m
           e
@@ -157,8 +157,9 @@ module _ (list : ListTree) (codes : List MethodCode) (t : Tables) (p : Package) 
           (argument_words (let o = c.method in o.flags) (let o = c.method in o.desc)) insns (rows_by (has_rows rows)))
           (sym (has_rows_by (has_rows rows)))
 
-      as_int_code : t.mode x ≡ modes.Int → m.code ≡ written_in_int_mode (resolution p.files near (let d = c.class
-          in d.name)) c.tree (body_of c.class c.method c.tree (let d = c.code in d.insns)) (t.types x) (t.ranges x)
+      pub as_int_code : t.mode x ≡ modes.Int → m.code ≡ written_in_int_mode (resolution p.files near
+          (let d = c.class in d.name)) c.tree (body_of c.class c.method c.tree (let d = c.code in d.insns)) (t.types x)
+          (t.ranges x)
       as_int_code mode =
           let w = written_at k m e in
           w.code ∙ ap (code_by_mode p.files near t m.member) c.known ∙ ap (λ q. code_in p.files near t q x) mode
