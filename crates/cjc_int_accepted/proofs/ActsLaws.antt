@@ -1,7 +1,6 @@
 -- What the instructions take and give that are written in int mode and name nothing, as they are laid.
-use Rattle.std.proofs.Common.{◌≡◌, ℕ, zero, suc, ◌+◌, refl, subst, arith, Bool, true, false, [], ◌∷◌}
+use Rattle.std.proofs.Common.{◌≡◌, ℕ, ◌+◌, refl, subst, Bool, true, false, [], ◌∷◌}
 use Rattle.std.specs.Prelude.{◌==◌, nat_le, if◌then◌else◌, ℤ, pos, negsuc}
-use Rattle.std.proofs.lemmas.Bool.Decides.{nat_tests}
 use Rattle.cjc_types.specs.Bytecode.Jvm as jvm
 use Rattle.cjc_check_proof.specs.NCode.Lowering.Naming.{Naming}
 use Rattle.cjc_ncode.specs.IntCode.IntCode.{loads, pushed, stores}
@@ -15,24 +14,8 @@ use Rattle.cjc_frames.specs.declared.acts.Act.{Act}
 use Rattle.cjc_frames.specs.declared.acts.Given.TheVariants.{ANumber}
 use Rattle.cjc_verify.specs.Pairs.{Pair}
 use Rattle.cjc_accepted_proof.specs.Plain.{act_laid}
+use Rattle.cjc_accepted_proof.proofs.InstructionsLaws.Acts.{by_four, by_six}
 use Rattle.cjc_int_accepted.specs.Acts.{letter_of_local}
-
--- what holds of the first numbers
-by_four : (P : ℕ → Type 0) → P 0 → P 1 → P 2 → P 3 → (l : ℕ) → nat_le l 3 ≡ true → P l
-by_four P a b c d zero e = a
-by_four P a b c d (suc zero) e = b
-by_four P a b c d (suc (suc zero)) e = c
-by_four P a b c d (suc (suc (suc zero))) e = d
-by_four P a b c d (suc (suc (suc (suc l)))) e = absurd (grind (arith, nat_tests, e))
-
-pub by_six : (P : ℕ → Type 0) → P 0 → P 1 → P 2 → P 3 → P 4 → P 5 → (l : ℕ) → nat_le l 5 ≡ true → P l
-by_six P a b c d f g zero e = a
-by_six P a b c d f g (suc zero) e = b
-by_six P a b c d f g (suc (suc zero)) e = c
-by_six P a b c d f g (suc (suc (suc zero))) e = d
-by_six P a b c d f g (suc (suc (suc (suc zero)))) e = f
-by_six P a b c d f g (suc (suc (suc (suc (suc zero))))) e = g
-by_six P a b c d f g (suc (suc (suc (suc (suc (suc l)))))) e = absurd (grind (arith, nat_tests, e))
 
 module _ (p : Pair) (result : ValueType) (n : Naming) (to : ℕ → ℕ) (at : ℕ) (wide : Bool) where
   -- the act of an instruction where it is laid

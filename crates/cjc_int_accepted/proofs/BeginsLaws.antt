@@ -1,5 +1,5 @@
 -- A method in int mode, where it is laid, begins with its prologue, which no handler of the package covers.
-use Rattle.std.proofs.Common.{◌≡◌, ℕ, suc, ◌+◌, ◌≤◌, ◌<◌, refl, sym, ap, subst, ◌∙◌, arith, Bool, true, false, List, []}
+use Rattle.std.proofs.Common.{◌≡◌, ℕ, ◌+◌, ◌≤◌, ◌<◌, refl, sym, ap, subst, ◌∙◌, arith, Bool, true, false, List, []}
 use Rattle.std.proofs.Common.{◌∷◌, ◌++◌, length, length-append, map, slice_get}
 use Rattle.std.proofs.Common.{Option, Some, None, Contains, ◌⊎◌, inl, inr}
 use Rattle.std.specs.Prelude.{cond, nat_le, nat_lt, option_and_then}
@@ -19,19 +19,17 @@ use Rattle.cjc_int_mode.specs.Intervals.Frames.{RangeState}
 use Rattle.cjc_int_mode.specs.Written.{int_frame, reached_from, written_in_int_mode}
 use Rattle.cjc_check_proof.specs.Code.Codes.{code_at}
 use Rattle.cjc_check_proof.specs.Code.Written.{AllWritable}
-use Rattle.cjc_check_proof.specs.NCode.Lowering.Handlers.{AllElsewhere, handler_of, handlers_of}
+use Rattle.cjc_check_proof.specs.NCode.Lowering.Handlers.{AllElsewhere, handlers_of}
 use Rattle.cjc_check_proof.specs.NCode.Lowering.Handlers as lowered
 use Rattle.cjc_check_proof.specs.NCode.Lowering.Naming.{Naming}
 use Rattle.cjc_check_proof.specs.NCode.Lowering.Placed.{HandlersStand, first}
 use Rattle.cjc_check_proof.specs.NCode.Written.{catch_at, catches_at}
 use Rattle.cjc_check_proof.specs.NCode.declared.narrow.NCatch.{NCatch}
-use Rattle.cjc_check_proof.specs.NCode.declared.narrow.NInsn.{NInsn}
 use Rattle.cjc_check_proof.specs.TokenProof.Tables.Loading.{components, part}
 use Rattle.cjc_check_proof.proofs.CodeLaws.Places.{label_ascends, label_grows}
 use Rattle.cjc_check_proof.proofs.CodeLaws.Sorted.{each_ordered}
 use Rattle.cjc_frames.specs.Flow.{covers}
 use Rattle.cjc_frames.specs.declared.acts.Catch.{Catch}
-use Rattle.cjc_frames.specs.declared.acts.Step.{Step}
 use Rattle.cjc_verify.specs.Bodies.{Body, catch, catches, frames_of, step, type_of_body}
 use Rattle.cjc_verify.specs.CapRead.declared.tree.ClassRef.{ClassRef}
 use Rattle.cjc_verify.specs.CapRead.declared.tree.Handler.{Handler}
@@ -46,6 +44,7 @@ use Rattle.cjc_accepted_proof.specs.Coded.{card_type, is_of, is_wide, label_at, 
 use Rattle.cjc_accepted_proof.specs.Frames.{nibbles_there, type_named}
 use Rattle.cjc_accepted_proof.specs.Methods.{steps_from}
 use Rattle.cjc_accepted_proof.specs.Written.{written_pair}
+use Rattle.cjc_accepted_proof.proofs.MethodsLaws.{steps_long}
 use Rattle.cjc_accepted_proof.proofs.StepsLaws.{steps_are_laid}
 use Rattle.cjc_int_accepted.specs.Entered.{AreShapes, BeginBehind}
 use Rattle.cjc_int_accepted.specs.Headers.{IsReadInIntMode}
@@ -206,11 +205,6 @@ module _ (p : Package) (number offset : ℕ) (laid : LaidMethod) (is_laid : slic
         ranges v read) count front_few ascends grows begin_behind
 
     -- ---- its steps
-
-    steps_long : (step : (label : ℕ) → NInsn → Step) (k : ℕ) (xs : List NInsn) → length (steps_from step k xs)
-        ≡ length xs
-    steps_long step k [] = refl
-    steps_long step k (x ∷ xs) = ap suc (steps_long step (k + 1) xs)
 
     -- where what the type checker reads is what is laid, its steps and words are those of the narrow code
     module _ (result : ValueType) (v : Body) (instructions : v.instructions ≡ (let c = code_at (names p) offset laid

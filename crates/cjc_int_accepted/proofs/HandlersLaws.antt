@@ -1,14 +1,13 @@
 -- Handlers of Method that cover what is written for an instruction in int mode are those of the class file that cover
 -- the instruction.
-use Rattle.std.proofs.Common.{◌≡◌, ℕ, ◌+◌, ◌-◌, ◌≤◌, ◌<◌, refl, sym, ap, subst, ◌∙◌, arith, Bool, true, false, List, []}
+use Rattle.std.proofs.Common.{◌≡◌, ℕ, ◌+◌, ◌-◌, ◌≤◌, ◌<◌, refl, sym, ap, subst, ◌∙◌, arith, true, List, []}
 use Rattle.std.proofs.Common.{◌∷◌, ◌++◌, length, slice_get, Option, Some, None, Contains}
-use Rattle.std.specs.Prelude.{cond, get_or, nat_lt}
+use Rattle.std.specs.Prelude.{get_or}
 use Rattle.std.specs.List.{AllByRecursion}
 use Rattle.cjc_types.specs.Bytecode.declared.insn.JInsn.{JInsn}
 use Rattle.cjc_types.specs.ClassFile.Code.{CodeTree}
 use Rattle.cjc_types.specs.ClassFile.declared.tree.Catch.{Catch as CatchByName}
 use Rattle.cjc_types.specs.Fixpoint.Tables.{HasRow}
-use Rattle.cjc_types.specs.Fixpoint.Working.Edges.{contains_head, contains_tail}
 use Rattle.cjc_types.specs.Flow.{Body as BodyByName, caught_type as type_by_name}
 use Rattle.cjc_types.specs.declared.state.State.{State}
 use Rattle.cjc_ncode.specs.IntCode.IntCode.{written}
@@ -20,7 +19,7 @@ use Rattle.cjc_check_proof.specs.Code.Written.{AllWritable}
 use Rattle.cjc_check_proof.specs.NCode.Lowering.Handlers.{handlers_of}
 use Rattle.cjc_check_proof.specs.NCode.Lowering.Laid.{class_index}
 use Rattle.cjc_check_proof.specs.NCode.Lowering.Placed.{HandlersStand, first}
-use Rattle.cjc_check_proof.specs.NCode.Written.{catch_at, catches_at}
+use Rattle.cjc_check_proof.specs.NCode.Written.{catches_at}
 use Rattle.cjc_check_proof.specs.NCode.declared.narrow.NCatch.{NCatch}
 use Rattle.cjc_check_proof.specs.TokenProof.Tables.Loading.{components, part}
 use Rattle.cjc_check_proof.proofs.CodeLaws.Places.{label_ascends, label_grows, label_high, last_label}
@@ -37,6 +36,7 @@ use Rattle.cjc_verify.specs.Components.Package.{LaidMethod, Package}
 use Rattle.cjc_accepted_proof.specs.Coded.{card_type, is_of, is_wide, label_at, step_of}
 use Rattle.cjc_accepted_proof.specs.Frames.{IsCaughtAs}
 use Rattle.cjc_accepted_proof.specs.Written.{written_pair}
+use Rattle.cjc_accepted_proof.proofs.CatchesLaws.{IsFor as IsCatchFor, all_for}
 use Rattle.cjc_int_accepted.specs.Methods.{IsHandlerFor}
 use Rattle.cjc_int_accepted.specs.Selection.{label_in, room_of, selected}
 use Rattle.cjc_int_accepted.proofs.BeginsLaws.{all_both, covering, elsewhere_fit}
@@ -62,7 +62,7 @@ module _ (p : Package) (number offset : ℕ) (laid : LaidMethod) (is_laid : slic
         c.class)
 
     abbrev IsFor : NCatch → Type 0
-    IsFor c = (d : CatchByName) × Contains b.catches d × (catch_at label d ≡ c)
+    IsFor = IsCatchFor label b.catches
 
     -- what a handler of the method's is
     pub record IsOwn (h : Handler) : Type 0 where
@@ -72,19 +72,6 @@ module _ (p : Package) (number offset : ℕ) (laid : LaidMethod) (is_laid : slic
       pub long : h.length ≡ to (label catch.end) - to (label catch.start)
       pub target : h.handler ≡ to (label catch.target)
       pub caught : IsCaughtAs (card_type p) (caught_type (written_pair p) h.catch_index) (type_by_name catch.class)
-
-    all_for : (ds : List CatchByName) → ((d : CatchByName) → Contains ds d → Contains b.catches d) →
-        AllByRecursion IsFor
-        (catches_at label ds)
-    all_for [] within = tt
-    all_for (d ∷ ds) within =
-        let c = catch_at label d in
-        by (nat_lt c.start c.end) (all_for ds (λ e on. within e (contains_tail d ds e on)))
-      where
-        by : (t : Bool) → AllByRecursion IsFor (catches_at label ds) → AllByRecursion IsFor (cond t (catch_at label d
-            ∷ catches_at label ds) (catches_at label ds))
-        by true rest = ((d, within d (contains_head d ds), refl), rest)
-        by false rest = rest
 
     own_fit : (at : ℕ) (cs : List NCatch) → AllByRecursion IsFor cs → AllByRecursion IsNamed cs → AllByRecursion
         (λ (h : Handler). h.start ≤ at → at < h.start + h.length → IsOwn h) (handlers_of (names p) to cs)
@@ -123,9 +110,8 @@ module _ (p : Package) (number offset : ℕ) (laid : LaidMethod) (is_laid : slic
         let low : first (placed_at offset laid) ≤ s.at = omega (arith, begin, none, at_same) in
         let last : s.at ≤ to (length (let l = laid.code in l.insns)) = omega (arith, high, at_same) in
         let of : AllByRecursion IsFor (let l = laid.code in l.catches) = subst (λ (l : NMethod). AllByRecursion IsFor
-        l.catches) (sym is) (subst (λ ds. AllByRecursion IsFor (catches_at label ds)) same (all_for b.catches
-        (λ d w. w)))
-        in
+        l.catches) (sym is) (subst (λ ds. AllByRecursion IsFor (catches_at label ds)) same (all_for label b.catches
+        b.catches (λ d w. w))) in
         let table = (let q = placed_at offset laid in let y = q.method in y.catches) in
         let laid_catches = (let l = laid.code in l.catches) in
         let own = own_fit s.at table (each_ordered IsFor laid_catches of) (each_ordered IsNamed laid_catches named) in

@@ -1,28 +1,20 @@
 -- The frames of a method of the card that is written in int mode: its stretches lead to each other.
 use Rattle.std.proofs.Common.{◌≡◌, ℕ, zero, suc, ◌+◌, ◌*◌, ◌<◌, ◌≤◌, refl, sym, ap, subst, ◌∙◌, arith}
-use Rattle.std.proofs.Common.{Bool, true, false, List, [], ◌∷◌, length, length-append, map, filter_map, slice_get}
-use Rattle.std.proofs.Common.{Option, Some, None, option_map, Contains}
+use Rattle.std.proofs.Common.{Bool, true, false, List, [], ◌∷◌, length, length-append, slice_get}
+use Rattle.std.proofs.Common.{Option, Some, None, Contains}
 use Rattle.std.specs.Prelude.{◌==◌, nat_le, nat_lt, if◌then◌else◌}
 use Rattle.std.specs.List.{AllZip}
 use Rattle.std.proofs.lemmas.Bool.{eqb-true}
 use Rattle.std.proofs.lemmas.Bool.Decides.{nat_tests}
-use Rattle.std.proofs.lemmas.List.Elements.{Contains-append_left, Contains-append_right}
 use Rattle.cjc_types.proofs.BytesGets.{contained, get_below, get_inside, position_there}
-use Rattle.cjc_types.proofs.Typed.{contains_kept, contains_mapped}
 use Rattle.cjc_types.specs.Bytecode.declared.insn.JInsn.{JInsn}
 use Rattle.cjc_types.specs.Bytecode.declared.insn.JOp.{JOp}
 use Rattle.cjc_types.specs.Cells.{IsCellBelow}
-use Rattle.cjc_types.specs.ClassFile.declared.tree.Catch.{Catch as CatchByName}
 use Rattle.cjc_types.specs.Fixpoint.Tables.{Covers, HasRow, IsClosed}
-use Rattle.cjc_types.specs.Fixpoint.Working.Edges.{contains_head}
-use Rattle.cjc_types.specs.Fixpoint.declared.flow.Edge.{Edge}
-use Rattle.cjc_types.specs.Flow.{Body as BodyByName, caught as caught_by_name, covers as covers_by_name}
-use Rattle.cjc_types.specs.Flow.{edge as edge_by_name, entry as entry_by_name, handler_edge as handler_edge_by_name}
-use Rattle.cjc_types.specs.Flow.{insn_edges, next_place as next_by_name, place_at as place_by_name, place_edges}
-use Rattle.cjc_types.specs.Flow.{successors as successors_by_name, type_flow}
+use Rattle.cjc_types.specs.Flow.{Body as BodyByName, caught as caught_by_name, entry as entry_by_name, type_flow}
 use Rattle.cjc_types.specs.States.{most_cells, states}
-use Rattle.cjc_types.specs.Steps.{after as after_by_name, goes_on as goes_on_by_name, locals_after, stack_after}
-use Rattle.cjc_types.specs.Steps.{stack_behind as behind_by_name, targets}
+use Rattle.cjc_types.specs.Steps.{after as after_by_name, locals_after, stack_after}
+use Rattle.cjc_types.specs.Steps.{stack_behind as behind_by_name}
 use Rattle.cjc_types.specs.States.{IsStackBelow, stack_of}
 use Rattle.cjc_types.specs.declared.cell.Cell.{Cell}
 use Rattle.cjc_verify.specs.Narrow.Pairs.Open.{closed}
@@ -37,6 +29,7 @@ use Rattle.cjc_frames.specs.declared.acts.Catch.{Catch}
 use Rattle.cjc_frames.specs.declared.acts.Step.{Step}
 use Rattle.cjc_accepted_proof.specs.Blocks.{goes_on}
 use Rattle.cjc_accepted_proof.proofs.BlocksLaws.{below_itself, below_through}
+use Rattle.cjc_accepted_proof.proofs.EdgesLaws.{falls_to, handled_to, jumps_to}
 use Rattle.cjc_accepted_proof.proofs.KindsLaws.{handler_below}
 use Rattle.cjc_int_accepted.specs.Frames.{Room, frame_words, int_stack, int_state, stack_words}
 use Rattle.cjc_int_accepted.specs.Methods.{AreLabelled, IsWrittenInIntMode, Leads, Selection}
@@ -343,56 +336,6 @@ module _ (card_type : List ℕ → Option (List ℕ)) (is_of : Subtype) (m : Roo
               place x covered.is_row));
         }
 
-    -- ---- where an instruction of the class file leads
-
-    handed : (at : ℕ) (i : JInsn) (x : State) → slice_get b.insns at ≡ Some i → HasRow rows at x → (e : Edge State)
-        → Contains (insn_edges b at i x) e → Covers (type_flow b) rows e.to e.state
-    handed at i x there row e on = table.steps at x row e (subst (λ (o : Option JInsn). Contains (place_edges b at o x)
-        e)
-        (sym there) on)
-
-    followed : (at : ℕ) (i : JInsn) (x : State) → slice_get b.insns at ≡ Some i → HasRow rows at x → (place : ℕ)
-        → Contains (successors_by_name b.insns at i.op) place → Covers (type_flow b) rows place (after_by_name i.op x)
-    followed at i x there row place on = handed at i x there row (edge_by_name (after_by_name i.op x) place)
-        (Contains-append_left (map (edge_by_name (after_by_name i.op x)) (successors_by_name b.insns at i.op))
-        (filter_map (handler_edge_by_name b.insns i.at x) b.catches) (edge_by_name (after_by_name i.op x) place)
-        (contains_mapped (edge_by_name (after_by_name i.op x)) (successors_by_name b.insns at i.op) place on))
-
-    falls_to : (at : ℕ) (i : JInsn) (x : State) → slice_get b.insns at ≡ Some i → HasRow rows at x → goes_on_by_name
-        i.op
-        ≡ true → Covers (type_flow b) rows (suc at) (after_by_name i.op x)
-    falls_to at i x there row goes =
-        let lt = decoded.next at i there goes in
-        let within_all : nat_lt (at + 1) (length b.insns) ≡ true = grind (arith, nat_tests, lt) in
-        let same : at + 1 ≡ suc at = omega arith in
-        let next : Contains (next_by_name (goes_on_by_name i.op) (length b.insns) at) (at + 1) = subst (λ (g : Bool).
-        Contains (next_by_name g (length b.insns) at) (at + 1)) (sym goes) (subst (λ (g : Bool). Contains (if g then (at
-        + 1) ∷ [] else []) (at + 1)) (sym within_all) (contains_head (at + 1) [])) in
-        subst (λ n. Covers (type_flow b) rows n (after_by_name i.op x)) same (followed at i x there row (at + 1)
-        (Contains-append_left (next_by_name (goes_on_by_name i.op) (length b.insns) at) (filter_map (place_by_name
-        b.insns)
-        (targets i.op)) (at + 1) next))
-
-    jumps_to : (at : ℕ) (i : JInsn) (x : State) → slice_get b.insns at ≡ Some i → HasRow rows at x → (t place : ℕ)
-        → Contains (targets i.op) t → place_by_name b.insns t ≡ Some place → Covers (type_flow b) rows place
-        (after_by_name i.op x)
-    jumps_to at i x there row t place on found = followed at i x there row place (Contains-append_right (next_by_name
-        (goes_on_by_name i.op) (length b.insns) at) (filter_map (place_by_name b.insns) (targets i.op)) place
-        (contains_kept (place_by_name b.insns) (targets i.op) t place on found))
-
-    handled_to : (at : ℕ) (i : JInsn) (x : State) → slice_get b.insns at ≡ Some i → HasRow rows at x → (d : CatchByName)
-        → Contains b.catches d → covers_by_name d i.at ≡ true → (place : ℕ) → place_by_name b.insns d.target ≡ Some
-        place
-        → Covers (type_flow b) rows place (caught_by_name d x)
-    handled_to at i x there row d on cover place found =
-        let e = edge_by_name (caught_by_name d x) place in
-        let here : handler_edge_by_name b.insns i.at x d ≡ Some (edge_by_name (caught_by_name d x) place) = ap
-        (λ (g : Bool). if g then option_map (edge_by_name (caught_by_name d x)) (place_by_name b.insns d.target)
-        else None) cover ∙ ap (option_map (edge_by_name (caught_by_name d x))) found in
-        handed at i x there row e (Contains-append_right (map (edge_by_name (after_by_name i.op x)) (successors_by_name
-        b.insns at i.op)) (filter_map (handler_edge_by_name b.insns i.at x) b.catches) e (contains_kept
-        (handler_edge_by_name b.insns i.at x) b.catches d e on here))
-
     -- ---- labels
 
     steps_are : c.steps ≡ steps_in all_stretches
@@ -502,7 +445,7 @@ module _ (card_type : List ℕ → Option (List ℕ)) (is_of : Subtype) (m : Roo
           let x = v.state in
           let s = stands_here in
           let on = s.falls (ap (λ (u : Stretch). goes_on u.steps) (sym v.is_stretch) ∙ goes) in
-          let d = falls_to v.at i x v.is_insn v.is_row on in
+          let d = falls_to b rows decoded table v.at i x v.is_insn v.is_row on in
           let y = d.row in
           let lt = decoded.next v.at i v.is_insn on in
           let j = get_inside b.insns (suc v.at) (omega (arith, lt)) in (
@@ -533,7 +476,7 @@ module _ (card_type : List ℕ → Option (List ℕ)) (is_of : Subtype) (m : Roo
           let p = decoded.handlers d f.listed in
           let r = p.1 in
           let n = r.insn in
-          let g = handled_to v.at i x v.is_insn v.is_row d f.listed f.covers p.0 r.found in
+          let g = handled_to b rows decoded table v.at i x v.is_insn v.is_row d f.listed f.covers p.0 r.found in
           let k = sound_at index s y along in
           let target : h.target ≡ to (label n.at) = f.target ∙ ap (λ z. to (label z)) (sym r.stands) in
           let same = found_at h.target lab (label n.at) (label_inside p.0 n g.row r.is_insn g.is_row) target found in
@@ -567,7 +510,7 @@ module _ (card_type : List ℕ → Option (List ℕ)) (is_of : Subtype) (m : Roo
               let p = decoded.targets v.at i target v.is_insn among_targets in
               let r = p.1 in
               let n = r.insn in
-              let g = jumps_to v.at i x v.is_insn v.is_row target p.0 among_targets r.found in
+              let g = jumps_to b rows decoded table v.at i x v.is_insn v.is_row target p.0 among_targets r.found in
               let at : offset ≡ to (label n.at) = is_offset ∙ ap (λ z. to (label z)) (sym r.stands) in
               let same = found_at offset lab (label n.at) (label_inside p.0 n g.row r.is_insn g.is_row) at found in
               let all : suc index ≡ length t.steps = last ∙ ap (λ (u : Stretch). length u.steps) (sym v.is_stretch) in

@@ -1,21 +1,18 @@
 -- A reached instruction of a method with room for int mode, by a table without a broken rule.
 use Rattle.std.proofs.Common.{◌≡◌, ℕ, zero, suc, ◌+◌, ◌<◌, ◌≤◌, refl, sym, ap, subst, ◌∙◌, arith, Bool, true, false}
-use Rattle.std.proofs.Common.{List, [], ◌∷◌, length, map, filter_map, slice_get, Option, Some, Contains}
+use Rattle.std.proofs.Common.{List, [], ◌∷◌, length, slice_get, Option, Some}
 use Rattle.std.specs.Prelude.{◌||◌, nat_le, nat_lt, if◌then◌else◌}
 use Rattle.std.specs.List.{AllZip}
 use Rattle.std.proofs.lemmas.Bool.{false_from_ne_true, ltb-false}
 use Rattle.std.proofs.lemmas.Bool.Decides.{nat_tests}
-use Rattle.std.proofs.lemmas.List.Elements.{Contains-append_left}
 use Rattle.cjc_types.proofs.BytesGets.{get_below, get_inside}
-use Rattle.cjc_types.proofs.Typed.{contains_mapped}
 use Rattle.cjc_types.specs.Bytecode.declared.insn.JInsn.{JInsn}
 use Rattle.cjc_types.specs.Cells.{IsCellBelow}
 use Rattle.cjc_types.specs.Fixpoint.Tables.{Covers, HasRow, IsClosed}
-use Rattle.cjc_types.specs.Fixpoint.Working.Edges.{contains_head}
-use Rattle.cjc_types.specs.Flow.{Body, edge, handler_edge, next_place, place_at, place_edges, successors, type_flow}
+use Rattle.cjc_types.specs.Flow.{Body, type_flow}
 use Rattle.cjc_types.specs.Rules.{clash, has_wrong, has_wrong_local, is_off, is_wrong, is_wrong_return, off, wrong}
 use Rattle.cjc_types.specs.States.{IsStackBelow, most_cells, stack_of}
-use Rattle.cjc_types.specs.Steps.{after, goes_on, stack_behind, takes, targets}
+use Rattle.cjc_types.specs.Steps.{after, goes_on, stack_behind, takes}
 use Rattle.cjc_types.specs.Tables.{Breach}
 use Rattle.cjc_types.specs.World.Classes.{Class}
 use Rattle.cjc_types.specs.declared.cell.Cell.{Cell}
@@ -24,6 +21,7 @@ use Rattle.cjc_types.specs.declared.state.Stack.{Stack}
 use Rattle.cjc_types.specs.declared.state.Stack.TheVariants.{Cells, Clash}
 use Rattle.cjc_types.specs.declared.state.State.{State}
 use Rattle.cjc_check_proof.specs.NarrowProof.Tables.Analysis.{IsDecoded}
+use Rattle.cjc_accepted_proof.proofs.EdgesLaws.{falls_to}
 use Rattle.cjc_int_mode.specs.Room.{IsRoom}
 use Rattle.cjc_int_mode.specs.Written.{written_in_int_mode}
 use Rattle.cjc_int_mode.specs.declared.modes.Mode.TheVariants as modes
@@ -85,17 +83,8 @@ module _ (w : List Class) (b : Body) (rows : List (Option State)) (decoded : IsD
   falls : (at : ℕ) (i : JInsn) (x : State) → slice_get b.insns at ≡ Some i → HasRow rows at x → goes_on i.op ≡ true
       → Covers (type_flow b) rows (at + 1) (after i.op x)
   falls at i x there row goes =
-      let lt = decoded.next at i there goes in
-      let inside : nat_lt (at + 1) (length b.insns) ≡ true = grind (arith, nat_tests, lt) in
-      let next : Contains (next_place (goes_on i.op) (length b.insns) at) (at + 1) = subst (λ (g : Bool). Contains
-      (next_place g (length b.insns) at) (at + 1)) (sym goes) (subst (λ (g : Bool). Contains (if g then (at + 1) ∷ []
-      else []) (at + 1)) (sym inside) (contains_head (at + 1) [])) in
-      let one = edge (after i.op x) (at + 1) in
-      table.steps at x row one (subst (λ (o : Option JInsn). Contains (place_edges b at o x) one) (sym there)
-      (Contains-append_left (map (edge (after i.op x)) (successors b.insns at i.op)) (filter_map (handler_edge b.insns
-      i.at x) b.catches) one (contains_mapped (edge (after i.op x)) (successors b.insns at i.op) (at + 1)
-      (Contains-append_left (next_place (goes_on i.op) (length b.insns) at) (filter_map (place_at b.insns) (targets
-      i.op)) (at + 1) next))))
+      let same : suc at ≡ at + 1 = omega arith in
+      subst (λ n. Covers (type_flow b) rows n (after i.op x)) same (falls_to b rows decoded table at i x there row goes)
 
   -- no cell behind it is unusable where another may follow
   behind_usable : (at : ℕ) (i : JInsn) (x : State) → slice_get b.insns at ≡ Some i → HasRow rows at x → (s : List Cell)

@@ -12,9 +12,9 @@ use Rattle.cjc_types.specs.declared.state.Stack.TheVariants.{Cells, Clash}
 use Rattle.cjc_types.specs.declared.state.State.{State}
 use Rattle.cjc_frames.specs.Acts.{Breaks, Subtype, after, has_wrong_local, is_off, is_wrong, lacks_local}
 use Rattle.cjc_frames.specs.Acts.{stack_behind}
-use Rattle.cjc_frames.specs.Acts.Breaks.{clash, wrong, off, unknown, misnamed}
 use Rattle.cjc_frames.specs.declared.acts.Act.{Act}
 use Rattle.cjc_frames.specs.declared.acts.Step.{Step}
+use Rattle.cjc_accepted_proof.proofs.RowsLaws.{none_breaks}
 use Rattle.cjc_int_accepted.specs.Methods.{acts_of}
 use Rattle.cjc_int_accepted.specs.Runs.{AreSound, IsSound, locals_behind, locals_through, stack_through}
 use Rattle.cjc_int_accepted.specs.Stretches.{frame_through, frames_along}
@@ -56,21 +56,8 @@ module _ (is_of : Subtype) (most : ℕ) (few : most ≤ most_cells) where
         ∙ ap (λ v. false || false || false || v) is.there
 
     pub nothing_breaks : (z : State) → z ≡ frame_of ls s → (rule : ℕ) → Breaks is_of most a z rule → ⊥
-    nothing_breaks z same rule (clash locals) = let e = ap (λ (v : State). v.stack) same in absurd cc
-    nothing_breaks z same rule (wrong t locals e) =
-        let stacks : Cells t ≡ Cells s = ap (λ (v : State). v.stack) same in
-        let stack : t ≡ s = cc in
-        let no : is_wrong is_of a locals t ≡ false = ap (λ v. is_wrong is_of a v t) (ap (λ (v : State). v.locals) same)
-        ∙ ap (λ v. is_wrong is_of a ls v) stack ∙ not_wrong in
-        absurd cc
-    nothing_breaks z same rule (off t locals e) =
-        let stacks : Cells t ≡ Cells s = ap (λ (v : State). v.stack) same in
-        let stack : t ≡ s = cc in
-        let no : is_off most a locals t ≡ false = ap (λ v. is_off most a v t) (ap (λ (v : State). v.locals) same)
-        ∙ ap (λ v. is_off most a ls v) stack ∙ not_off in
-        absurd cc
-    nothing_breaks z same rule (unknown v e) = let no = is.known in absurd cc
-    nothing_breaks z same rule (misnamed v e) = let no = is.named in absurd cc
+    nothing_breaks z same rule breaks = none_breaks is_of most a ls s not_wrong not_off is.known is.named z same rule
+        breaks
 
   -- ---- several
 

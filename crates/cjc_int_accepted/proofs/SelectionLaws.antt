@@ -6,6 +6,7 @@ use Rattle.std.proofs.lemmas.Bool.{cases_lt, ltb-false, ltb-true}
 use Rattle.std.proofs.lemmas.Bool.Decides.{nat_tests}
 use Rattle.std.proofs.lemmas.Option.{slice_get-get_or}
 use Rattle.std.specs.Prelude.{◌&&◌, ◌-◌, nat_le, nat_lt, if◌then◌else◌}
+use Rattle.cjc_types.proofs.BytesGets.{get_below}
 use Rattle.cjc_types.specs.Bytecode.declared.insn.JInsn.{JInsn}
 use Rattle.cjc_types.specs.Bytecode.declared.method_code.MethodCode.{MethodCode}
 use Rattle.cjc_types.specs.Bytes.declared.fault.MemberId.{MemberId}
@@ -50,6 +51,7 @@ use Rattle.cjc_int_runs.proofs.PlacedCode.{none_before}
 use Rattle.cjc_int_alike.proofs.Written.{pairs_there, reached_of, reached_there}
 use Rattle.cjc_frames.specs.declared.acts.Step.{Step}
 use Rattle.cjc_accepted_proof.specs.Methods.{steps_from}
+use Rattle.cjc_accepted_proof.proofs.MethodsLaws.{step_there, steps_both, steps_long}
 use Rattle.cjc_int_accepted.specs.Frames.{Room}
 use Rattle.cjc_int_accepted.specs.Methods.{AreLabelled, Selection, stretches_from}
 use Rattle.cjc_int_accepted.specs.Runs.{most_words}
@@ -58,32 +60,14 @@ use Rattle.cjc_int_accepted.specs.Stretches.{Stretch, steps_in}
 
 -- ---- instructions as steps
 
-module _ (step : (label : ℕ) → NInsn → Step) where
-  steps_both : (k : ℕ) (xs ys : List NInsn) → steps_from step k (xs ++ ys) ≡ steps_from step k xs ++ steps_from step (k
-      + length xs) ys
-  steps_both k [] ys = let same : k ≡ k + 0 = omega arith in ap (λ n. steps_from step n ys) same
-  steps_both k (x ∷ xs) ys =
-      let same : k + 1 + length xs ≡ k + suc (length xs) = omega arith in
-      ap (λ ss. step k x ∷ ss) (steps_both (k + 1) xs ys ∙ ap (λ n. steps_from step (k + 1) xs ++ steps_from step n ys)
-      same)
-
-  steps_long : (k : ℕ) (xs : List NInsn) → length (steps_from step k xs) ≡ length xs
-  steps_long k [] = refl
-  steps_long k (x ∷ xs) = ap suc (steps_long (k + 1) xs)
-
-  -- a step of instructions, and its label
-  step_of : (k : ℕ) (xs : List NInsn) (j : ℕ) (s : Step) → slice_get (steps_from step k xs) j ≡ Some s → (j
-      < length xs) × (x : NInsn) × (s ≡ step (k + j) x)
-  step_of k [] j s e = absurd cc
-  step_of k (x ∷ xs) zero s e =
-      let same : step k x ≡ s = cc in
-      let none : k ≡ k + 0 = omega arith in
-      (omega arith, x, sym same ∙ ap (λ n. step n x) none)
-  step_of k (x ∷ xs) (suc j) s e =
-      let r = step_of (k + 1) xs j s e in
-      let lt = r.0 in
-      let same : k + 1 + j ≡ k + suc j = omega arith in
-      (omega (arith, lt), r.1, r.2 ∙ ap (λ n. step n r.1) same)
+-- a step of instructions, and its label
+step_of : (step : (label : ℕ) → NInsn → Step) (k : ℕ) (xs : List NInsn) (j : ℕ) (s : Step) → slice_get (steps_from step
+    k xs) j ≡ Some s → (j < length xs) × (x : NInsn) × (s ≡ step (k + j) x)
+step_of step k xs j s e =
+    let r = step_there step k xs j s e in
+    let lt = get_below (steps_from step k xs) j s e in
+    let long = steps_long step k xs in
+    (omega (arith, lt, long), r.0, r.1)
 
 -- a step that is listed is there
 listed : (xs : List Step) (s : Step) (on : Contains xs s) → slice_get xs on.0 ≡ Some s

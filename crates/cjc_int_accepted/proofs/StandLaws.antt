@@ -22,8 +22,13 @@ use Rattle.cjc_int_accepted.specs.Stretches.{IsAlong}
 pub none_in : (offset : ℕ) → Contains [] offset → ⊥
 none_in offset (k, lt, e) = absurd (omega (arith, lt))
 
+-- what jumps nowhere leads to what is written for targets
+pub nowhere : (label to : ℕ → ℕ) (op : JOp) (offset : ℕ) → Contains [] offset → (t : ℕ) × Contains (targets op) t
+    × (offset ≡ to (label t))
+nowhere label to op offset on = absurd (none_in offset on)
+
 -- steps go on as their acts do
-goes_same : (steps : List Step) → goes_on steps ≡ falls_behind (acts_of steps)
+pub goes_same : (steps : List Step) → goes_on steps ≡ falls_behind (acts_of steps)
 goes_same [] = refl
 goes_same (s ∷ []) = refl
 goes_same (s ∷ t ∷ steps) = goes_same (t ∷ steps)

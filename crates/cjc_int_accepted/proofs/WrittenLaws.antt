@@ -35,6 +35,7 @@ use Rattle.cjc_verify.specs.Pairs.{Pair}
 use Rattle.cjc_verify.specs.Script.Sorts.{Sort}
 use Rattle.cjc_verify.specs.Script.Sorts as sorts
 use Rattle.cjc_accepted_proof.specs.Plain.{act_laid, tested_words}
+use Rattle.cjc_accepted_proof.proofs.InstructionsLaws.Acts.{by_six}
 use Rattle.cjc_accepted_proof.proofs.InstructionsLaws.Leads.{moved_far}
 use Rattle.cjc_accepted_proof.proofs.InstructionsLaws.Named.{IsBranch}
 use Rattle.cjc_accepted_proof.proofs.InstructionsLaws.Named as named
@@ -43,7 +44,7 @@ use Rattle.cjc_int_accepted.specs.Acts.{writing_item}
 use Rattle.cjc_int_accepted.specs.Frames.{count_of, words_of}
 use Rattle.cjc_int_accepted.specs.Laid.{IsNumberAs, acts_laid, guard_of_store, letter_loaded, letter_stored}
 use Rattle.cjc_int_accepted.specs.Laid.{references_in}
-use Rattle.cjc_int_accepted.proofs.ActsLaws.{arithmetic_act, by_six, increase_act, load_act, negation_act, number_act}
+use Rattle.cjc_int_accepted.proofs.ActsLaws.{arithmetic_act, increase_act, load_act, negation_act, number_act}
 use Rattle.cjc_int_accepted.proofs.ActsLaws.{store_act}
 
 module _ (p : Pair) (result : ValueType) (n : Naming) (to : ℕ → ℕ) (wide : ℕ → Bool) where

@@ -3,13 +3,16 @@ pub mod Arguments
 pub mod Ends
 pub mod Entered
 pub mod Frames
+pub mod Guards
 pub mod Headers
+pub mod Insns
 pub mod Laid
 pub mod Methods
 pub mod Named
 pub mod Reached
-pub mod Right
 pub mod Runs
 pub mod Selection
+pub mod Served
+pub mod Standing
 pub mod Stretches
 pub mod Types

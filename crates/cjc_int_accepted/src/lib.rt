@@ -5,21 +5,27 @@
 
 pub mod acts;
 pub mod begins;
+pub mod call_stands;
 pub mod calls;
 pub mod constants;
+pub mod element_stands;
 pub mod elements;
 pub mod entry;
 pub mod front;
 pub mod headers;
+pub mod insns;
 pub mod jumps;
 pub mod locals;
 pub mod methods;
 pub mod named;
+pub mod named_stand;
 pub mod objects;
 pub mod packages;
+pub mod returns_stand;
 pub mod selection;
 pub mod singles;
 pub mod stack;
+pub mod stack_stands;
 pub mod stands;
 pub mod stretches;
 pub mod tables;

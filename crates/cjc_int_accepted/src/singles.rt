@@ -8,7 +8,7 @@ ghost use Rattle.cjc_check_proof.specs.NCode.Written.{Resolution};
 ghost use Rattle.cjc_frames.specs.Acts.{Subtype};
 ghost use Rattle.cjc_int_accepted.specs.Frames.{Room};
 ghost use Rattle.cjc_int_accepted.specs.Methods.{Selection, StretchStands};
-ghost use Rattle.cjc_int_accepted.specs.Right.{IsRight};
+ghost use Rattle.cjc_int_accepted.specs.Reached.{IsRight};
 ghost use Rattle.cjc_ncode.specs.IntCode.IntCode.{Before, Frame, nargs, written};
 ghost use Rattle.cjc_types.specs.Bytecode.Jvm as jvm;
 ghost use Rattle.cjc_types.specs.Bytecode.declared.insn.JCase.{JCase};

@@ -227,7 +227,7 @@ module _ (card_type : List ℕ → Option (List ℕ)) (is_of : Subtype) (w : Lis
           let long = length-append (words_of card_type x) s in
           omega (arith, rest, long)
 
-      pairs_long : (ys zs : List Cell) → length (pairs_with card_type ys zs) ≡ length zs
+      pub pairs_long : (ys zs : List Cell) → length (pairs_with card_type ys zs) ≡ length zs
       pairs_long [] zs = refl
       pairs_long (y ∷ ys) [] = refl
       pairs_long (y ∷ ys) (a ∷ []) = refl
