@@ -61,6 +61,7 @@ module _ (list : ListTree) (files : List (List ℕ)) (judged : Judged) (sound : 
     of_package = by.of_package;
     types = λ e. let clash : false ≡ true = e in absurd cc;
     modes = λ e. let clash : false ≡ true = e in absurd cc;
+    tokens = λ e. by.tokens refl;
   }
 
   pub none_broken : SentencesHold → (let w = p.files in IsImage p.files (all_codes w.classes) p.image)

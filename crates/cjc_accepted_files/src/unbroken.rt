@@ -10,16 +10,14 @@ ghost use Rattle.cjc_cmd_card.specs.Report.Runs.{AnyBreaks};
 ghost use Rattle.cjc_cmd_card.specs.CmdCheck.Folder.Breaks.{cap_in};
 ghost use Rattle.cjc_cmd_card.specs.CmdCheck.Folder.Reads.{plan_of_parts};
 ghost use Rattle.cjc_cmd_convert.specs.Publication.{below, files_made};
-ghost use Rattle.cjc_convert.specs.Conversion.{IsConverted, IsConvertedByModes};
+ghost use Rattle.cjc_convert.specs.Conversion.{IsConvertedByModes};
 ghost use Rattle.cjc_convert.specs.declared.conversion.Converted.{Converted as Written};
 ghost use Rattle.cjc_shape_proof.specs.LowerJudge.Rules.{files_spelt, has_applets};
 ghost use Rattle.cjc_shape_proof.specs.LowerJudge.Spelt.{FileTree, IsRead, SpellTrees, classes_of, exports_of};
 ghost use Rattle.cjc_components.specs.LowerList.Listed.{ListTree};
-ghost use Rattle.cjc_shape_proof.specs.Written.Converted.{IsConverted as IsConvertedPackage};
 ghost use Rattle.cjc_shelf.specs.Command.Plan.{complete as complete_with, verdict};
 ghost use Rattle.cjc_shelf.specs.Command.Publish.{Stand};
 ghost use Rattle.cjc_shelf.specs.Shelf.{Files};
-ghost use Rattle.cjc_theorem.specs.Alike.Alike.{NoneInIntMode};
 ghost use Rattle.cjc_theorem.specs.FairExports.Fair.{ExportsAreFair};
 ghost use Rattle.cjc_verified_proof.specs.Verify.Pairs.{pair_of};
 ghost use Rattle.cjc_verified_proof.specs.Verify.Verified.{IsVerified};
@@ -28,27 +26,11 @@ ghost use Rattle.cjc_accepted_files.specs.Folder.{input_of, parts_of};
 
 use crate::folder::written_files_are_read_back;
 use crate::paired::written_components_are_paired;
-use cjc_accepted_theorem::converted::converted_packages_are_accepted;
+use cjc_accepted_modes::accepted::packages_by_modes_are_accepted;
+use cjc_accepted_modes::readable::packages_by_modes_are_readable;
 use cjc_accepted_theorem::read_back::written_components_are_accepted;
-use cjc_accepted_theorem::stands::code_of_converted_packages_stands;
 use cjc_cmd_card::check_rules::consistent_where_unbroken;
-use cjc_convert::conversions_in_short_mode_are_as_before;
 use cjc_int_theorem::whole::{converted_packages_are_judged, converted_packages_behave_alike};
-use cjc_theorem::fair_exports::fair_exports_are_sound;
-
-/// What is converted, with fair export files, is a package of which the laws of converted packages speak, where none of
-/// its methods is in int mode.
-pub fn conversions_are_of_packages()
-    ensures { (list : ListTree) (files : Items (Items ℕ)) (made : Written) → IsRead list
-        → (by_modes : IsConvertedByModes list files made)
-        → (trees : Items FileTree) → SpellTrees list.lines files trees → ExportsAreFair (exports_of trees)
-        → NoneInIntMode list (files_spelt list trees)
-        → (is : IsConverted list files made) × (is.whole ≡ by_modes.whole)
-        × IsConvertedPackage list files is.judged is.whole }
-{
-    conversions_in_short_mode_are_as_before();
-    fair_exports_are_sound();
-}
 
 /// From a folder in which the files of a conversion stand, with fair export files, all that it wrote is read, and its
 /// list, its files and these components break no rule that is tested before components are run, whichever methods are in
@@ -70,20 +52,19 @@ pub fn written_files_break_nothing()
     written_files_are_read_back();
 }
 
-/// Nor do they break one of the type checker's, where no method is in int mode.
+/// Nor do they break one of the type checker's.
 pub fn written_files_are_accepted()
     ensures { (list : ListTree) (files : Items (Items ℕ)) (made : Written) → IsRead list
         → IsConvertedByModes list files made
         → (trees : Items FileTree) → SpellTrees list.lines files trees → ExportsAreFair (exports_of trees)
-        → NoneInIntMode list (files_spelt list trees)
         → (spelt : Items FileTree) → SpellTrees list.lines files spelt
         → (image : StaticImage) → IsImage (files_spelt list spelt) (all_codes (classes_of spelt)) image
         → (cap : CapTree) → cap_in (parts_of made.caps) ≡ Some cap → (c : Complete) → complete cap ≡ Some c
         → IsVerified (pair_of (has_applets list) (files_spelt list spelt) image c) }
 {
-    code_of_converted_packages_stands();
-    conversions_are_of_packages();
-    converted_packages_are_accepted();
+    converted_packages_are_judged();
+    packages_by_modes_are_accepted();
+    packages_by_modes_are_readable();
     written_components_are_accepted();
     written_files_are_read_back();
 }

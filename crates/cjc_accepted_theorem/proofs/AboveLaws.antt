@@ -59,7 +59,8 @@ use Rattle.cjc_verified_proof.specs.WorldProof.Calls.Solid.{IsSolid}
 use Rattle.cjc_check_proof.specs.Classes.Premises.{TypesAreKnown}
 use Rattle.cjc_check_proof.specs.Types.Flow.{Body}
 use Rattle.cjc_check_proof.specs.Types.Rules.{names_private, receiver_class}
-use Rattle.cjc_narrow_proof.specs.Laws.Unbroken.{IsInsnOf, IsUnbroken}
+use Rattle.cjc_narrow_proof.specs.Laws.Unbroken.{IsInsnOf, KeepsNames}
+use Rattle.cjc_token_proof.specs.Subset.Ints.{works_on_int}
 use Rattle.cjc_narrow_proof.proofs.LawsLaws.Own.{class_by_name}
 use Rattle.cjc_accepted_proof.specs.Beside.{Beside, body_by_name, names_in}
 use Rattle.cjc_accepted_proof.specs.Carded.{EntriesAreNamed}
@@ -68,14 +69,11 @@ use Rattle.cjc_accepted_proof.specs.Frames.{MethodFits, PassesFor, SubtypesAgree
 use Rattle.cjc_accepted_proof.specs.Served.{CallServed, entry_for, type_for}
 use Rattle.cjc_accepted_proof.specs.Served as serves
 use Rattle.cjc_accepted_proof.specs.Written.{written_pair}
-use Rattle.cjc_theorem.proofs.ShapeProofOfFiles.{is_of_files}
 use Rattle.cjc_theorem.proofs.AlikeLaws.MetLaws.KeySources.{Calls_method, IsMet, called}
 use Rattle.cjc_theorem.proofs.AlikeLaws.MetLaws.KeySources as sources
-use Rattle.cjc_theorem.proofs.ShapeProofFiles.{files_sound, own_unbroken}
-use Rattle.cjc_theorem.proofs.ShapeProofWorlds.{own_solid}
 use Rattle.cjc_theorem.specs.LowerJudge.Rules.{settings_of}
-use Rattle.cjc_theorem.specs.LowerJudge.declared.judged.Judged.{Judged}
-use Rattle.cjc_theorem.specs.ShapeProof.Written.Converted.{IsConverted}
+use Rattle.cjc_shape_proof.proofs.WrittenLaws.Checked.{files_sound, own_names, own_solid}
+use Rattle.cjc_theorem.specs.ShapeProof.Written.Checked.{IsOfFiles}
 use Rattle.cjc_theorem.specs.VTable.Calls.{is_special}
 use Rattle.cjc_theorem.specs.VTable.Laws.{itself, selection}
 use Rattle.cjc_verified_proof.specs.Tokens.Members.{Signature}
@@ -87,7 +85,8 @@ use Rattle.cjc_accepted_theorem.proofs.FixedLaws.{private_is}
 use Rattle.cjc_accepted_theorem.proofs.OutwardLaws.{outward_whole}
 use Rattle.cjc_accepted_theorem.proofs.PassedLaws.{class_passes}
 use Rattle.cjc_accepted_theorem.proofs.SentLaws.{word_of}
-use Rattle.cjc_accepted_theorem.proofs.TypedLaws.{entry_says, method_fits}
+use Rattle.cjc_accepted_theorem.proofs.TypedLaws.{EntrySays, entry_says, method_fits}
+use Rattle.cjc_accepted_theorem.proofs.TypesLaws.{special_key}
 
 -- what is selected above a class, where that is there and is no abstract method
 record IsSelected (w : List Class) (x : List ℕ) (s : Signature) : Type 0 where
@@ -129,10 +128,10 @@ selected_whole w super id itself_there e = by (selected w super id.name id.desc)
     by (Some f) g e = of_class_one f (ap (λ y. first (own_method true id.name id.desc) (line w y)) (sym itself_there)
         ∙ g) (class_numbered w f.imported f.class) refl e
 
-module _ (list : ListTree) (files : List (List ℕ)) (judged : Judged) (p : Package) (is : IsConverted list files judged
-    p) (subtypes : SubtypesAgree (card_type p) (is_of p) (world p)) (described : described_spots (written_pair p) ≡ [])
+module _ (list : ListTree) (codes : List MethodCode) (p : Package) (is : IsOfFiles list codes p)
+    (subtypes : SubtypesAgree (card_type p) (is_of p) (world p)) (described : described_spots (written_pair p) ≡ [])
     (named : EntriesAreNamed p) (known : TypesAreKnown p)
-    (met : (key : PoolKey) → IsMet p.files judged.codes key → NamesItsDesc p key) (has : HasMethods p) (facts : Facts p)
+    (met : (key : PoolKey) → IsMet p.files codes key → NamesItsDesc p key) (has : HasMethods p) (facts : Facts p)
     (begin : (k : ℕ) (d : Class) → slice_get (class_order (world p)) k ≡ Some d → is_interface d.flags ≡ false
     → (j : ℕ) (f : Found) → slice_get (methods_of_class (world p) d) j ≡ Some f → Begins p d f)
     (coded : ExportsHaveCode p) (keep : ExportsKeep p) (climbs : KeepsSubtypes (world p))
@@ -142,7 +141,7 @@ module _ (list : ListTree) (files : List (List ℕ)) (judged : Judged) (p : Pack
     → (j : ℕ) (f : Found) → slice_get (methods_of_class (world p) d) j ≡ Some f → (s : Start Code)
     × (start_of (loaded p) 0 (method_offset p f) ≡ Some s) × (s.is_abstract ≡ true → (let m = method_in (world p) d
     f.member in is_abstract m.flags ≡ true)))
-    (supers : (class : ClassTree) (id : MemberId) → IsInsnOf p.files judged.codes class (jop.Call 0xB7 id)
+    (supers : (class : ClassTree) (id : MemberId) → IsInsnOf p.files codes class (jop.Call 0xB7 id)
     → is_interface class.flags ≡ false → is_constructor id.name ≡ false → (hit : ResolvedMember)
     → method_found (world p) id ≡ Some hit → is_private hit.flags ≡ false
     → IsNamed (world p) (OnSuper (of_class class.name id))) where
@@ -155,22 +154,19 @@ module _ (list : ListTree) (files : List (List ℕ)) (judged : Judged) (p : Pack
   abbrev n : Naming
   n = naming p
 
-  abbrev codes : List MethodCode
-  codes = judged.codes
-
-  abbrev u : IsUnbroken list.name p.files judged.codes (settings_of list)
-  u = own_unbroken list files judged p is
+  abbrev u : KeepsNames list.name p.files codes (settings_of list)
+  u = own_names list codes p is.checked
 
   abbrev solid : IsSolid p.files
-  solid = own_solid list files judged p is
+  solid = own_solid list codes p is.checked
 
   module _ (class : ClassTree) (id : MemberId) (of : IsInsnOf p.files codes class (jop.Call 0xB7 id))
       (class_here : is_interface class.flags ≡ false) where
     abbrev m : MemberId
     m = of_class class.name id
 
-    abbrev call : Calls_method list judged.codes p (is_of_files list files judged p is) class 0xB7 id
-    call = called list judged.codes p (is_of_files list files judged p is) class 0xB7 id of
+    abbrev call : Calls_method list codes p is class 0xB7 id
+    call = called list codes p is class 0xB7 id of
 
     abbrev flags : ℕ
     flags = let c = call in let a = c.at in let x = a.member in x.flags
@@ -257,7 +253,7 @@ module _ (list : ListTree) (files : List (List ℕ)) (judged : Judged) (p : Pack
 
       token_fine : IsNamed w (OnSuper m) → names_abstract_above q (class_ref p class.name) (virtual_token p m) ≡ false
       token_fine (on_super c d super there own here its super_is plain sought alike) =
-          let kinds = says_kinds list.name p (files_sound list files judged p is) in
+          let kinds = says_kinds list.name p (files_sound list codes p is.checked) in
           let h = facts.own m.class c there own in
           let at : class_at p class.name ≡ Own 0 h.offset = ap (class_at p) (sym (class_named-name w m.class c there))
           ∙ h.on_card in
@@ -292,7 +288,7 @@ module _ (list : ListTree) (files : List (List ℕ)) (judged : Judged) (p : Pack
           let c = call in
           let d = c.owner in
           let s = solid in
-          let private = private_is list files judged p is subtypes described named known met has facts begin coded id d
+          let private = private_is list codes p is subtypes described named known met has facts begin coded id d
           c.place c.at c.found (s.numbered d.name d c.named) in
           by (is_constructor id.name) (names_private w id) (ap (λ v. is_constructor id.name || v) private ∙ above_one)
         where
@@ -305,29 +301,40 @@ module _ (list : ListTree) (files : List (List ℕ)) (judged : Judged) (p : Pack
       said key = subst (NamesItsDesc p) key (met (special_by class.name id (method_found w id)) (sources.of_special
           number class id holder class_here of))
 
-      typed : NamesItsDesc p (keys.Super m) → Holds (naming p) (keys.Super m)
-          → MethodFits (card_type p) id (type_for q (names p) (keys.Super m))
-      typed its held =
-          let s = entry_says p described named known (keys.Super m) held m.desc its.0 in
-          let t = method_fits p (keys.Super m) m s (word_of list files judged p is subtypes described named known met
-          class 0xB7 id of) in
-          record { params = t.params; result = t.result }
-
       passes : (b : Body) → b.class ≡ class.name → PassesFor (card_type p) (is_of p) w (receiver_class w b 0xB7 id)
           (class_type (class_ref p class.name))
       passes b same = subst (λ x. PassesFor (card_type p) (is_of p) w x (class_type (class_ref p class.name)))
-          (sym (receiver_is b ∙ same)) (class_passes list files judged p is subtypes class.name class.name (declared
+          (sym (receiver_is b ∙ same)) (class_passes list codes p is subtypes class.name class.name (declared
           number class) (declared number class) holder holder (inl refl))
 
-  -- a call of a method of a superclass in a method that is written
+      -- so its key is that of a method of the superclass
+      key_is : special_by class.name id (method_found w id) ≡ keys.Super m
+      key_is =
+          let c = call in
+          special_key list codes p is class id c ∙ ap (λ a. if a then keys.StaticMethod (of_class (let d = c.owner
+          in d.name) id) else keys.Super m) above_one
+
+      -- what its entry says, of whatever types
+      pub above_entry : Holds (naming p) (keys.Super m)
+          → (names_abstract_above q (class_ref p class.name) (virtual_token p m) ≡ false)
+          × EntrySays p (keys.Super m) id.desc
+          × ((b : Body) → b.class ≡ class.name → PassesFor (card_type p) (is_of p) w (receiver_class w b 0xB7 id)
+          (class_type (class_ref p class.name)))
+      above_entry held = (
+        token_fine is_named,
+        entry_says p described named known (keys.Super m) held id.desc (said key_is).0,
+        passes,
+      )
+
+  -- a call of a method of a superclass in a method that is written, where its types are of one word
   pub above_served : (b : Beside) → (let class = b.class in is_interface class.flags ≡ false) → (id : MemberId)
-      → IsInsnOf p.files codes b.class (jop.Call 0xB7 id)
+      → IsInsnOf p.files codes b.class (jop.Call 0xB7 id) → works_on_int (jop.Call 0xB7 id) ≡ false
       → Holds (naming p) (keys.Super (of_class (let class = b.class in class.name) id))
       → (let r = names_in p b in r.special id) ≡ keys.Super (of_class (let class = b.class in class.name) id)
       → CallServed (card_type p) (is_of p) w q (names p) (names_in p b) (body_by_name b) 0xB7 id
   unfolding with_pairs resolution
-  above_served b class_here id of held key = by (is_constructor id.name || is_private (flags b.class id of class_here))
-      refl
+  above_served b class_here id of free held key = by (is_constructor id.name || is_private (flags b.class id of
+      class_here)) refl
     where
       told : (v : Bool) → (is_constructor id.name || is_private (flags b.class id of class_here)) ≡ v
           → special_by (let class = b.class in class.name) id (method_found w id)
@@ -335,9 +342,8 @@ module _ (list : ListTree) (files : List (List ℕ)) (judged : Judged) (p : Pack
           id) else keys.Super (of_class (let class = b.class in class.name) id))
       told v e =
           let c = call b.class id of class_here in
-          ap (special_by (let class = b.class in class.name) id) (ap (option_and_then (method_hit w)) c.found ∙ c.hit)
-          ∙ ap (λ a. if a then keys.StaticMethod (of_class (let d = c.owner in d.name) id)
-          else keys.Super (of_class (let class = b.class in class.name) id)) e
+          special_key list codes p is b.class id c ∙ ap (λ a. if a then keys.StaticMethod (of_class (let d = c.owner
+          in d.name) id) else keys.Super (of_class (let class = b.class in class.name) id)) e
 
       by : (v : Bool) → (is_constructor id.name || is_private (flags b.class id of class_here)) ≡ v
           → CallServed (card_type p) (is_of p) w q (names p) (names_in p b) (body_by_name b) 0xB7 id
@@ -347,8 +353,8 @@ module _ (list : ListTree) (files : List (List ℕ)) (judged : Judged) (p : Pack
       by false e =
           let class = b.class in
           let g = of_class class.name id in
+          let entry = above_entry class id of class_here e held in
           serves.above (class_ref p class.name) (virtual_token p g) (ap (entry_for q (names p)) key ∙ held.there)
-          (token_fine class id of class_here e (is_named class id of class_here e))
-          (subst (λ (k : PoolKey). MethodFits (card_type p) id (type_for q (names p) k)) (sym key)
-          (typed class id of class_here e (said class id of class_here e (told false e)) held))
-          (passes class id of class_here e (body_by_name b) refl)
+          entry.0 (subst (λ (k : PoolKey). MethodFits (card_type p) id (type_for q (names p) k)) (sym key)
+          (method_fits p (keys.Super g) id entry.1 (word_of list codes p is subtypes described named known met class
+          0xB7 id of free))) (entry.2 (body_by_name b) refl)

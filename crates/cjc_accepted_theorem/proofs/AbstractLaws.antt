@@ -1,5 +1,4 @@
 -- No class of which objects are made has an abstract method for one of its tokens.
-use Rattle.cjc_theorem.proofs.ShapeProofOfFiles.{is_of_files}
 use Rattle.std.proofs.Common.{◌≡◌, ◌⊎◌, ⊎_elim, inl, inr, ℕ, zero, suc, ◌+◌, ◌-◌, ◌≤◌, ◌==◌, refl, sym, ap, subst}
 use Rattle.std.proofs.Common.{◌∙◌, arith, Bool, true, false, List, [], ◌∷◌, ◌++◌, drop, length, map, nat_lt}
 use Rattle.std.specs.Prelude.{◌&&◌, ◌||◌, not, cond, Option, Some, None, if◌then◌else◌, option_and_then, option_map}
@@ -43,7 +42,7 @@ use Rattle.cjc_verified_proof.specs.World.Supertypes as supertype_trees
 use Rattle.cjc_verified_proof.specs.World.declared.found.Found.{Found}
 use Rattle.cjc_verified_proof.specs.WorldProof.Calls.Solid.{IsSolid}
 use Rattle.cjc_theorem.specs.LowerJudge.declared.judged.Judged.{Judged}
-use Rattle.cjc_theorem.specs.ShapeProof.Written.Converted.{IsConverted}
+use Rattle.cjc_theorem.specs.ShapeProof.Written.Checked.{IsOfFiles}
 use Rattle.cjc_theorem.proofs.AlikeLaws.VirtualCalls.Lines.{hidden_found}
 use Rattle.cjc_theorem.proofs.AlikeLaws.VirtualCalls.Objects.{own_kinds}
 use Rattle.cjc_verified_proof.proofs.WorldCycles.{class_named-name}
@@ -472,8 +471,9 @@ module _ (p : Package) (facts : Facts p)
 
 -- ---- a class of which objects are made
 
-module _ (list : ListTree) (files : List (List ℕ)) (judged : Judged) (p : Package) (is : IsConverted list files judged
-    p) (laid : IsLaidOut list files judged p) (facts : Facts p) (keeps : Keeps (world p)) (solid : IsSolid p.files) (tokens : KeepsTokens (world p))
+module _ (list : ListTree) (files : List (List ℕ)) (judged : Judged) (p : Package) (is : IsOfFiles list judged.codes p)
+    (laid : IsLaidOut list files judged p) (facts : Facts p) (keeps : Keeps (world p)) (solid : IsSolid p.files)
+    (tokens : KeepsTokens (world p))
     (mean : TokensMean (world p)) (mean_here : PackageTokensMean (world p))
     (imported_calls : ImportedCallsAgree (world p)) (agree : (h : ℕ) (x z : List ℕ) → SaysTower (world p) (naming p)
     (method_offset p) h x z → h ≤ depth (loaded p) → DispatchAgrees (world p) (naming p) (method_offset p) x z)
@@ -491,7 +491,7 @@ module _ (list : ListTree) (files : List (List ℕ)) (judged : Judged) (p : Pack
       (plain : is_interface c.flags ≡ false) (made : is_abstract c.flags ≡ false) where
     whole : (s : Signature) → is_special s ≡ false → (f : Found) → selection v x s ≡ Some f → IsConcrete p facts begun
         f
-    whole s flat = selected_whole list files judged p is laid facts keeps solid x c e own plain made s (second
+    whole s flat = selected_whole list files judged p laid facts keeps solid x c e own plain made s (second
         (is_constructor s.name) (is_initialiser s.name) flat)
       where
         second : (a b : Bool) → (a || b) ≡ false → b ≡ false
@@ -541,8 +541,8 @@ module _ (list : ListTree) (files : List (List ℕ)) (judged : Judged) (p : Pack
         let m = mean x c e plain s t tok in
         let f = m.method in
         let has = here-has_slot (slots (line_of v x)) t s g in
-        let flat = slot_plain list files judged p is laid facts keeps solid x c e own plain made s has in
-        let sel : selection v x s ≡ Some f = sym (slot_means list files judged p is laid facts keeps solid x c e own plain
+        let flat = slot_plain list files judged p laid facts keeps solid x c e own plain made s has in
+        let sel : selection v x s ≡ Some f = sym (slot_means list files judged p laid facts keeps solid x c e own plain
         made
         s t tok) ∙ m.by_token in
         ap (is_abstract_selection q) (says.open_method t f s m.by_token m.name) ∙ by f m.nearest flat sel f.imported
@@ -668,9 +668,9 @@ module _ (list : ListTree) (files : List (List ℕ)) (judged : Judged) (p : Pack
         let m = mean_here x c e s t tok in
         let f = m.method in
         let has = here-has_slot (hidden_slots (line_of v x)) t s g in
-        let source = hidden_source list files judged p is laid facts keeps solid x c e s has in
+        let source = hidden_source list files judged p laid facts keeps solid x c e s has in
         let finds = hidden_found v facts.are_supertypes facts.one_supertypes facts.rules (own_kinds list judged.codes p
-        (is_of_files list files judged p is)
+        is
         facts.are_supertypes facts.one_supertypes keeps) x s source in
         let calls = facts.virtual_calls x x c c e plain e itself in
         let r = calls.package_method s finds in

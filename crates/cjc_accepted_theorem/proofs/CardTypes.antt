@@ -31,13 +31,12 @@ use Rattle.cjc_theorem.proofs.NarrowProofOwn.{class_by_name}
 use Rattle.cjc_accepted_proof.specs.NarrowProof.Laws.Unbroken.{IsInsnOf}
 use Rattle.cjc_verified_proof.specs.NCode.declared.narrow.PoolKey.{PoolKey}
 use Rattle.cjc_theorem.proofs.ShapeProofDescs.{member_desc}
-use Rattle.cjc_theorem.proofs.ShapeProofFiles.{field_descs, own_names, read_files}
 use Rattle.cjc_theorem.proofs.ShapeProofMeant.{added_method}
 use Rattle.cjc_theorem.proofs.ShapeProofOrder.{order_filed}
-use Rattle.cjc_theorem.proofs.ShapeProofWorlds.{own_solid}
 use Rattle.cjc_theorem.specs.LowerJudge.Rules.{settings_of}
 use Rattle.cjc_theorem.specs.LowerJudge.declared.judged.Judged.{Judged}
-use Rattle.cjc_theorem.specs.ShapeProof.Written.Converted.{IsConverted}
+use Rattle.cjc_shape_proof.proofs.WrittenLaws.Checked.{field_descs, own_names, own_solid, read_files}
+use Rattle.cjc_theorem.specs.ShapeProof.Written.Checked.{IsOfFiles}
 use Rattle.cjc_accepted_proof.specs.Subset.Checks.{check_breaks, class_breaks, code_breaks, field_breaks, has_int}
 use Rattle.cjc_accepted_proof.specs.Subset.Checks.{has_unsupported}
 use Rattle.cjc_accepted_proof.specs.Subset.Checks.{list_breaks, method_breaks, own_breaks}
@@ -47,7 +46,6 @@ use Rattle.cjc_accepted_proof.specs.Subset.Overriding.{gets_hidden, overriding_b
 use Rattle.cjc_accepted_proof.specs.Subset.Places.{at_class, at_field, at_method}
 use Rattle.cjc_accepted_proof.specs.Subset.Types.{is_int_desc, is_unsupported_desc, is_unsupported_name}
 use Rattle.cjc_accepted_proof.specs.Subset.Types.{names_unsupported}
-use Rattle.cjc_theorem.proofs.ShapeProofOfFiles.{is_of_files}
 use Rattle.cjc_theorem.proofs.AlikeLaws.MetLaws.KeySources as sources
 use Rattle.cjc_theorem.proofs.AlikeLaws.MetLaws.KeySources.{IsMet, called, key_met}
 use Rattle.cjc_theorem.specs.ShapeProof.Written.LaidOut.{IsLaidOut}
@@ -137,7 +135,7 @@ module _ (list : List ℕ) (files : Files) (codes : List MethodCode) (settings :
       not_broken (is_unsupported_desc f.desc) (at_field g t i f) 301 (none_left first second (none_left (first
       ++ second) third one))
 
-  method_fits : (k : ℕ) (m : MethodTree) → slice_get t.methods k ≡ Some m → is_unsupported_desc m.desc ≡ false
+  pub method_fits : (k : ℕ) (m : MethodTree) → slice_get t.methods k ≡ Some m → is_unsupported_desc m.desc ≡ false
   unfolding class_breaks method_breaks
   method_fits k m e =
       let X = own_breaks files settings g (0 + n) t in
@@ -180,13 +178,13 @@ module _ (list : List ℕ) (files : Files) (codes : List MethodCode) (settings :
 
 -- ---- a converted package
 
-module _ (list : ListTree) (files : List (List ℕ)) (judged : Judged) (p : Package) (is : IsConverted list files judged
-    p) (laid : IsLaidOut list files judged p) where
+module _ (list : ListTree) (files : List (List ℕ)) (judged : Judged) (p : Package) (is : IsOfFiles list judged.codes p)
+    (laid : IsLaidOut list files judged p) where
   abbrev w : List Class
   w = world p
 
   abbrev u : KeepsNames list.name p.files judged.codes (settings_of list)
-  u = own_names list files judged p is
+  u = own_names list judged.codes p is.checked
 
   described_on_card : (desc : List ℕ) → IsDescOf true desc → length desc < 2 ^ 32 → is_unsupported_desc desc ≡ false
       → IsOnCard desc
@@ -199,14 +197,14 @@ module _ (list : ListTree) (files : List (List ℕ)) (judged : Judged) (p : Pack
 
     field_card : (k : ℕ) (f : FieldTree) → slice_get t.fields k ≡ Some f → IsOnCard f.desc
     field_card k f g =
-        let d = field_descs list files judged p is n k t f e g in
+        let d = field_descs list judged.codes p is.checked n k t f e g in
         on_card f.desc d.parts d.short d.is_desc
         (field_fits list.name p.files judged.codes (settings_of list) u.checks n t e k f g)
 
     method_card : (i : ℕ) (m : Member) → (let c = declared n t in slice_get c.methods i ≡ Some m) → IsOnCard m.desc
     method_card i m h =
         let r = mapped_at method_of_class t.methods i m h in
-        let d = member_desc p.files (read_files list files judged p is) (declared n t) named i m h in
+        let d = member_desc p.files (read_files list judged.codes p is.checked) (declared n t) named i m h in
         let fits = method_fits list.name p.files judged.codes (settings_of list) u.checks n t e i r.0 r.1 in
         described_on_card m.desc d.0 d.1 (ap (λ (x : Member). is_unsupported_desc x.desc) (sym r.2) ∙ fits)
 
@@ -251,12 +249,12 @@ module _ (list : ListTree) (files : List (List ℕ)) (judged : Judged) (p : Pack
   codes = judged.codes
 
   -- the descriptor of a field of the package that code names
-  named_field : (id : MemberId) (static : Bool) (n : Names_field list judged.codes p (is_of_files list files judged p is) id static)
+  named_field : (id : MemberId) (static : Bool) (n : Names_field list judged.codes p is id static)
       → (let d = n.owner in d.is_imported) ≡ false → IsOnCard id.desc
   named_field id static n own =
       let d = n.owner in
       let place = n.at in
-      let t = declared_by list judged.codes p (is_of_files list files judged p is) d n.named own place.place place.member place.is_member in
+      let t = declared_by list judged.codes p is d n.named own place.place place.member place.is_member in
       subst IsOnCard (sym (ap (λ (q : Member). q.desc) t.same) ∙ place.has_desc) (field_card d.number t.file t.is_file
       place.place t.tree t.in_file)
 
@@ -264,10 +262,10 @@ module _ (list : ListTree) (files : List (List ℕ)) (judged : Judged) (p : Pack
       → IsOnCard id.desc
   unfolding names_unsupported
   call_card class op id of =
-      let n = called list judged.codes p (is_of_files list files judged p is) class op id of in
+      let n = called list judged.codes p is class op id of in
       let place = n.at in
       let fit = op_fit list.name p.files codes (settings_of list) u class (jop.Call op id) of in
-      let d = member_desc p.files (read_files list files judged p is) n.owner n.named place.place place.member
+      let d = member_desc p.files (read_files list judged.codes p is.checked) n.owner n.named place.place place.member
       place.is_member in
       let read : IsDescOf true id.desc × (length id.desc < 2 ^ 32) = subst (λ v. IsDescOf true v × (length v < 2 ^ 32))
       place.has_desc d in
@@ -277,38 +275,41 @@ module _ (list : ListTree) (files : List (List ℕ)) (judged : Judged) (p : Pack
   key_card : (key : PoolKey) → IsMet p.files codes key → AllByRecursion IsOnCard (desc_of_key key)
   key_card _ (sources.of_class c e) = tt
   key_card _ (sources.of_field class put id of) =
-      let n = field_named list.name p.files codes (settings_of list) u (own_solid list files judged p is) class put id
+      let n = field_named list.name p.files codes (settings_of list) u (own_solid list judged.codes p is.checked) class
+      put id
       of in (
-        ap-desc n.resolved (named_field id false n (field_own list judged.codes p (is_of_files list files judged p is) id n)),
+        ap-desc n.resolved (named_field id false n (field_own list judged.codes p is id n)),
         tt,
       )
     where
       ap-desc : {a b : MemberId} → a ≡ b → IsOnCard b.desc → IsOnCard a.desc
       ap-desc same on = subst (λ (q : MemberId). IsOnCard q.desc) (sym same) on
   key_card _ (sources.of_static class put id of none) =
-      let n = static_named list.name p.files codes (settings_of list) u (own_solid list files judged p is) class put id
+      let n = static_named list.name p.files codes (settings_of list) u (own_solid list judged.codes p is.checked)
+      class put id
       of in
-      let own = static_own list.name p.files codes (settings_of list) u (own_solid list files judged p is) id n none in
+      let own = static_own list.name p.files codes (settings_of list) u (own_solid list judged.codes p is.checked) id n
+      none in
       (subst (λ (q : MemberId). IsOnCard q.desc) (sym n.resolved) (named_field id true n own), tt)
   key_card _ (sources.of_virtual class id of) = (
-    virtual_key list judged.codes p (is_of_files list files judged p is) (λ m. IsOnCard m.desc) class id (called list judged.codes p (is_of_files list files judged p is) class 0xB6 id of)
+    virtual_key list judged.codes p is (λ m. IsOnCard m.desc) class id (called list judged.codes p is class 0xB6 id of)
         (call_card class 0xB6 id of) (λ own. call_card class 0xB6 id of),
     tt,
   )
   key_card _ (sources.of_special k class id known plain of) =
-      special_key list judged.codes p (is_of_files list files judged p is) (λ key. AllByRecursion IsOnCard (desc_of_key key)) class.name class id
-      (called list judged.codes p (is_of_files list files judged p is) class 0xB7 id of) (λ e. (call_card class 0xB7 id of, tt)) (λ e. (
+      special_key list judged.codes p is (λ key. AllByRecursion IsOnCard (desc_of_key key)) class.name class id
+      (called list judged.codes p is class 0xB7 id of) (λ e. (call_card class 0xB7 id of, tt)) (λ e. (
         call_card class
             0xB7 id of,
         tt,
       )) (λ e f. (call_card class 0xB7 id of, tt))
   key_card _ (sources.of_call class id of) =
-      let n = called list judged.codes p (is_of_files list files judged p is) class 0xB8 id of in
+      let n = called list judged.codes p is class 0xB8 id of in
       (subst (λ (q : MemberId). IsOnCard q.desc) (sym n.resolved) (call_card class 0xB8 id of), tt)
 
   pub card_types : CallsHaveOpcodes judged.codes → HasCardTypes p
   card_types opcodes = record {
     fields = fields_card;
     methods = methods_card;
-    entries = λ k key e. key_card key (key_met list judged.codes p (is_of_files list files judged p is) opcodes k key e);
+    entries = λ k key e. key_card key (key_met list judged.codes p is opcodes k key e);
   }

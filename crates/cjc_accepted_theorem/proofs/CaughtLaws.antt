@@ -6,6 +6,7 @@ use Rattle.std.specs.Prelude.{◌==◌, Option, Some, None, option_map, slice_ge
 use Rattle.std.specs.List.{Contains}
 use Rattle.std.specs.Str.{bytes_eq}
 use Rattle.std.proofs.lemmas.Slice.Eq.{bytes_eq-Decides}
+use Rattle.cjc_verified_proof.specs.Bytecode.declared.method_code.MethodCode.{MethodCode}
 use Rattle.cjc_verified_proof.proofs.BytesGets.{contains_at}
 use Rattle.cjc_world.specs.Classes.{Class, class_named}
 use Rattle.cjc_world.specs.Lookup.{object}
@@ -33,15 +34,12 @@ use Rattle.cjc_accepted_proof.specs.Written.{written_pair}
 use Rattle.cjc_theorem.proofs.AlikeLaws.NamedLaws.Catches.{behind_first}
 use Rattle.cjc_theorem.proofs.AlikeLaws.NamedLaws.Means.{catch_held}
 use Rattle.cjc_theorem.proofs.AlikeLaws.NamedLaws.Sources.{has_catch}
-use Rattle.cjc_theorem.proofs.ShapeProofFiles.{files_sound, own_unbroken}
-use Rattle.cjc_theorem.proofs.ShapeProofOfFiles.{is_of_files}
-use Rattle.cjc_theorem.specs.LowerJudge.declared.judged.Judged.{Judged}
-use Rattle.cjc_theorem.specs.ShapeProof.Written.Converted.{IsConverted}
+use Rattle.cjc_shape_proof.proofs.WrittenLaws.Checked.{files_sound, own_names}
+use Rattle.cjc_theorem.specs.ShapeProof.Written.Checked.{IsOfFiles}
 use Rattle.cjc_accepted_theorem.proofs.PassedLaws.{class_typed}
 use Rattle.cjc_accepted_theorem.proofs.ThrownLaws.{thrown}
 
-module _ (list : ListTree) (files : List (List ℕ)) (judged : Judged) (p : Package) (is : IsConverted list files judged
-    p) where
+module _ (list : ListTree) (codes : List MethodCode) (p : Package) (is : IsOfFiles list codes p) where
   abbrev q : Pair
   q = written_pair p
 
@@ -54,11 +52,11 @@ module _ (list : ListTree) (files : List (List ℕ)) (judged : Judged) (p : Pack
       ap (caught_type q) index ∙ ap (λ (b : Bool). if b then throwable q else option_map class_type (class_in (entry_of
       q (suc i)))) some ∙ (ap (λ (k : ℕ). option_map class_type (class_in (entry_of q k))) (sym index)
       ∙ (ap (λ o. option_map class_type (class_in o)) holds.there
-      ∙ sym (class_typed list files judged p is name c known)))
+      ∙ sym (class_typed list codes p is name c known)))
 
   -- any exception
   any_caught : caught_type q 0 ≡ card_type p throwable_by_name
-  any_caught = thrown list.name p (files_sound list files judged p is)
+  any_caught = thrown list.name p (files_sound list codes p is.checked)
 
   module _ (k : ℕ) (m : LaidMethod) (e : slice_get p.methods k ≡ Some m) (c : NCatch)
       (on : (let code = m.code in Contains code.catches c)) where
@@ -74,9 +72,9 @@ module _ (list : ListTree) (files : List (List ℕ)) (judged : Judged) (p : Pack
 
         known : (name : List ℕ) → c.class ≡ Some name → (d : Class) × (class_named (world p) name ≡ Some d)
         known name g =
-            let u = own_unbroken list files judged p is in
-            let s = has_catch list judged.codes p (is_of_files list files judged p is) k m e place.0 c place.1 in
-            let at = class_there (world p) name (caught_there p.files judged.codes u.names s.code s.class s.method
+            let u = own_names list codes p is.checked in
+            let s = has_catch list codes p is k m e place.0 c place.1 in
+            let at = class_there (world p) name (caught_there p.files codes u.names s.code s.class s.method
             s.tree s.of s.listed s.handler name s.there (s.same ∙ g)) in
             (at.0, at.1)
 
@@ -99,5 +97,5 @@ module _ (list : ListTree) (files : List (List ℕ)) (judged : Judged) (p : Pack
         by (Some name) g = by_name_of name g (bytes_eq name object) refl
 
   -- So the handlers of each method do that is written for one of a class file.
-  pub catches_named : (m : Beside) → IsBeside p m judged.codes → CatchesAreNamed p m
+  pub catches_named : (m : Beside) → IsBeside p m codes → CatchesAreNamed p m
   catches_named m b c on = caught_so b.number m.laid b.is_laid c on

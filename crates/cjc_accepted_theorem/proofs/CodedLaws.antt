@@ -1,6 +1,6 @@
 -- Methods of Method of a converted package beside those of its class files: what is written for a method with code is
 -- selected by its least type table, which breaks no rule.
-use Rattle.std.proofs.Common.{◌≡◌, ℕ, ◌+◌, ◌-◌, ◌<◌, sym, ap, subst, ◌∙◌, arith, List, length}
+use Rattle.std.proofs.Common.{◌≡◌, ℕ, ◌+◌, ◌-◌, ◌<◌, sym, ap, subst, ◌∙◌, arith, false, List, length}
 use Rattle.std.proofs.Common.{slice_get, Option, Some, Contains}
 use Rattle.std.specs.Prelude.{IfSome}
 use Rattle.cjc_verified_proof.proofs.BytesGets.{all_at, contained, contains_at, get_below, get_inside}
@@ -14,7 +14,6 @@ use Rattle.cjc_components.specs.Bytecode.Decoded.{decoded, insns_of, of_code, of
 use Rattle.cjc_components.specs.Bytecode.PackageCodes.{all_codes}
 use Rattle.cjc_components.specs.Bytecode.declared.method_code.MethodCode.{MethodCode}
 use Rattle.cjc_components.specs.Package.{LaidMethod, Package, pool, world}
-use Rattle.cjc_components.specs.Written.{IsWritten, code_by}
 use Rattle.cjc_ncode.specs.declared.narrow.NMethod.{NMethod}
 use Rattle.cjc_narrow.specs.Rows.Resolved.{argument_words}
 use Rattle.cjc_narrow.specs.Rows.Selected.{near_fields, selected_code}
@@ -26,11 +25,20 @@ use Rattle.cjc_types.specs.Types.{parts}
 use Rattle.cjc_types.specs.declared.state.State.{State}
 use Rattle.cjc_shape.specs.LowerMethods.Ready.{AreReady, IsDecoded}
 use Rattle.cjc_verified_proof.specs.Bytes.declared.fault.MemberId.{MemberId}
+use Rattle.cjc_shape_proof.proofs.ShapeInts.{free_by}
+use Rattle.cjc_shape_proof.proofs.WrittenLaws.Coded.{plain_here}
 use Rattle.cjc_shape_proof.proofs.WrittenLaws.Places.{coded_there}
-use Rattle.cjc_theorem.proofs.ShapeProofFiles.{read_files, same_files}
+use Rattle.cjc_shape_proof.specs.LowerIntPackage.LowerIntMode.declared.modes.Mode.TheVariants as modes
+use Rattle.cjc_shape_proof.specs.LowerIntPackage.Modes.{Tables}
+use Rattle.cjc_shape_proof.specs.LowerIntPackage.Written.{IsWrittenByMode, code_by_mode, code_in}
+use Rattle.cjc_theorem.proofs.AlikeLaws.Converted.{same_by_modes}
 use Rattle.cjc_theorem.proofs.ShapeSound.{are_ready}
 use Rattle.cjc_theorem.specs.LowerJudge.declared.judged.Judged.{Judged}
-use Rattle.cjc_theorem.specs.ShapeProof.Written.Converted.{IsConverted}
+use Rattle.cjc_shape_proof.proofs.WrittenLaws.Checked.{read_files}
+use Rattle.cjc_theorem.specs.Shape.Whole.Conversion.{HasModes}
+use Rattle.cjc_theorem.specs.ShapeProof.Written.Checked.{IsOfFiles}
+use Rattle.cjc_theorem.specs.ShapeProof.Written.LaidOut.{IsLaidOut}
+use Rattle.cjc_token_proof.specs.Subset.Ints.{code_works_on_int}
 use Rattle.cjc_verified_proof.specs.JvmSemantics.Linked.{Method}
 use Rattle.cjc_verified_proof.specs.JvmSemantics.OnePackage.{method_at, method_by}
 use Rattle.cjc_verified_proof.specs.List.Listed.{ListTree}
@@ -39,17 +47,27 @@ use Rattle.cjc_accepted_proof.specs.CardActs.CardTypes.{ValueType}
 use Rattle.cjc_accepted_proof.specs.Coded.{card_type}
 use Rattle.cjc_accepted_proof.specs.Frames.{IsTypeFor}
 
-module _ (list : ListTree) (files : List (List ℕ)) (judged : Judged) (p : Package) (is : IsConverted list files judged
-    p) where
+module _ (list : ListTree) (files : List (List ℕ)) (judged : Judged) (p : Package) (is : IsOfFiles list judged.codes p)
+    (laid : IsLaidOut list files judged p) where
   abbrev near : List MemberId
   near = near_fields (pool p)
 
+  -- what was told of its methods
+  abbrev pub tables : Tables
+  tables = laid.is_package.tables
+
   abbrev rows : Method → List (Option State)
-  rows = is.is_package.rows
+  rows = let t = tables in t.types
+
+  same : p.files ≡ judged.world
+  same = same_by_modes list files judged laid.read laid.sound p laid.is_package
 
   own_ready : AreReady p.files judged.codes judged.types
-  own_ready = subst (λ (w : Files). AreReady w judged.codes judged.types) (sym (same_files list files judged p is))
-      (are_ready list files judged is.sound)
+  own_ready = subst (λ (w : Files). AreReady w judged.codes judged.types) (sym same) (are_ready list files judged
+      laid.sound)
+
+  own_modes : HasModes list.ints judged.world tables
+  own_modes = subst (λ (w : Files). HasModes list.ints w tables) same laid.is_package.has
 
   -- ---- a method of a class file with code
 
@@ -86,10 +104,10 @@ module _ (list : ListTree) (files : List (List ℕ)) (judged : Judged) (p : Pack
     abbrev table_rows : List (Option State)
     table_rows = rows (method_by t x (Some tree))
 
-    least : IsLeastTable (body_of t x tree code.insns) table_rows
-    least = is.is_package.spelt.least code t x tree among of_package
+    pub least : IsLeastTable (body_of t x tree code.insns) table_rows
+    least = laid.is_package.spelt.least code t x tree among of_package
 
-    unbroken : (place rule : ℕ) → Breach (world p) (body_of t x tree code.insns) table_rows place rule → ⊥
+    pub unbroken : (place rule : ℕ) → Breach (world p) (body_of t x tree code.insns) table_rows place rule → ⊥
     unbroken place rule breach =
         let at = contains_at judged.codes code listed in
         let lt = get_below judged.codes at.0 code at.1 in
@@ -102,9 +120,9 @@ module _ (list : ListTree) (files : List (List ℕ)) (judged : Judged) (p : Pack
         types.unbroken place rule (subst (λ rs. Breach (world p) (body_of t x tree code.insns) rs place rule) same
         breach)
 
-    some_bytes : 0 < length tree.bytes
+    pub some_bytes : 0 < length tree.bytes
     some_bytes =
-        let reads = read_files list files judged p is in
+        let reads = read_files list judged.codes p is.checked in
         let r = reads.classes n t is_class in
         let few = spelt_fits t r.0 r.1 r.2 in
         let one = all_at fits.MethodFits t.methods i x few.methods is_method in
@@ -115,50 +133,63 @@ module _ (list : ListTree) (files : List (List ℕ)) (judged : Judged) (p : Pack
     unfolding decoded
     insns_are = ap insns_of decoding_is.decodes
 
-    -- what is written is what is selected
-    pub selected_is : (let laid = m in laid.code) ≡ selected_code p.files near t x tree code.insns table_rows
-    selected_is =
-        let written : IsWritten p.files near rows m = is.is_package.is_package.methods k m there in
-        written.code ∙ ap (code_by p.files near rows m.member) named
-        ∙ same_code p.files near rows t x tree (own_ready.found n i t x is_class is_method)
-        ∙ ap (λ insns. selected_code p.files near t x tree insns table_rows) insns_are
+    -- ---- where it is in short mode
 
-    -- the words of its stack, of its arguments and of its other locals
-    pub stack_is : (let c = m.code in c.max_stack) ≡ tree.max_stack
-    stack_is = ap (λ (c : NMethod). c.max_stack) selected_is
+    module _ (short : (let q = tables in q.mode (method_by t x (Some tree))) ≡ modes.Short) where
+      -- what is written is what is selected
+      pub selected_is : (let laid = m in laid.code) ≡ selected_code p.files near t x tree code.insns table_rows
+      selected_is =
+          let written : IsWrittenByMode p.files near tables m = laid.is_package.is_package.methods k m there in
+          written.code ∙ ap (code_by_mode p.files near tables m.member) named
+          ∙ ap (λ q. code_in p.files near tables q (method_by t x (Some tree))) short
+          ∙ same_code p.files near rows t x tree (own_ready.found n i t x is_class is_method)
+          ∙ ap (λ insns. selected_code p.files near t x tree insns table_rows) insns_are
 
-    pub nargs_is : (let c = m.code in c.nargs) ≡ argument_words x.flags x.desc
-    nargs_is = ap (λ (c : NMethod). c.nargs) selected_is
+      -- it does not work on int
+      pub works_on_none : code_works_on_int p.files code ≡ false
+      works_on_none =
+          let at = contains_at judged.codes code listed in
+          let plain = plain_here list judged.codes p is.checked is.methods k m there t x tree named in
+          let of = subst (λ (w : Files). IsMethodOf w code t x tree) same of_package in
+          ap (λ (w : Files). code_works_on_int w code) same
+          ∙ free_by list files judged laid.sound tables own_modes at.0 code at.1 t x tree of plain short
 
-    pub locals_are : (let c = m.code in c.max_locals) ≡ tree.max_locals - argument_words x.flags x.desc
-    locals_are = ap (λ (c : NMethod). c.max_locals) selected_is
+      -- the words of its stack, of its arguments and of its other locals
+      pub stack_is : (let c = m.code in c.max_stack) ≡ tree.max_stack
+      stack_is = ap (λ (c : NMethod). c.max_stack) selected_is
 
-    module _ (offset : ℕ) (result : ValueType) where
-      abbrev pub beside : Beside
-      beside = record {
-        offset = offset;
-        laid = m;
-        result = result;
-        code = code;
-        class = t;
-        method = x;
-        tree = tree;
-        rows = table_rows;
-        near = near;
-      }
+      pub nargs_is : (let c = m.code in c.nargs) ≡ argument_words x.flags x.desc
+      nargs_is = ap (λ (c : NMethod). c.nargs) selected_is
 
-      pub is_beside : (let d = parts x.desc in let v = d.result in IsTypeFor (card_type p) v.kind v.class result)
-          → IsBeside p beside judged.codes
-      is_beside typed = record {
-        number = k;
-        is_laid = there;
-        named = named;
-        is_method = of_package;
-        listed = listed;
-        some = some_bytes;
-        least = least;
-        unbroken = unbroken;
-        insns = ap (λ (c : NMethod). c.insns) selected_is;
-        catches = ap (λ (c : NMethod). c.catches) selected_is;
-        result = typed;
-      }
+      pub locals_are : (let c = m.code in c.max_locals) ≡ tree.max_locals - argument_words x.flags x.desc
+      locals_are = ap (λ (c : NMethod). c.max_locals) selected_is
+
+      module _ (offset : ℕ) (result : ValueType) where
+        abbrev pub beside : Beside
+        beside = record {
+          offset = offset;
+          laid = m;
+          result = result;
+          code = code;
+          class = t;
+          method = x;
+          tree = tree;
+          rows = table_rows;
+          near = near;
+        }
+
+        pub is_beside : (let d = parts x.desc in let v = d.result in IsTypeFor (card_type p) v.kind v.class result)
+            → IsBeside p beside judged.codes
+        is_beside typed = record {
+          number = k;
+          is_laid = there;
+          named = named;
+          is_method = of_package;
+          listed = listed;
+          some = some_bytes;
+          least = least;
+          unbroken = unbroken;
+          insns = ap (λ (c : NMethod). c.insns) selected_is;
+          catches = ap (λ (c : NMethod). c.catches) selected_is;
+          result = typed;
+        }

@@ -21,7 +21,6 @@ use Rattle.cjc_verified_proof.specs.World.Supertypes.{known_here, line, supertyp
 use Rattle.cjc_verified_proof.specs.World.declared.found.Found.{Found}
 use Rattle.cjc_verified_proof.specs.WorldProof.Calls.Solid.{IsSolid}
 use Rattle.cjc_theorem.specs.LowerJudge.declared.judged.Judged.{Judged}
-use Rattle.cjc_theorem.specs.ShapeProof.Written.Converted.{IsConverted}
 use Rattle.cjc_theorem.specs.ShapeProof.Written.LaidOut.{IsLaidOut}
 use Rattle.cjc_theorem.proofs.AlikeLaws.VirtualCalls.Chosen.{any_selects, own_first}
 use Rattle.cjc_theorem.proofs.AlikeLaws.VirtualCalls.Lines.{HasHidden, HasShown, hidden_below, shown_below}
@@ -177,8 +176,9 @@ shown_selects m e = by (selects m) (is_constructor m.name || is_initialiser m.na
     by true b f = refl
     by false b f = absurd cc
 
-module _ (list : ListTree) (files : List (List ℕ)) (judged : Judged) (p : Package) (is : IsConverted list files judged
-    p) (laid : IsLaidOut list files judged p) (facts : Facts p) (keeps : Keeps (world p)) (solid : IsSolid p.files) where
+module _ (list : ListTree) (files : List (List ℕ)) (judged : Judged) (p : Package)
+    (laid : IsLaidOut list files judged p)
+    (facts : Facts p) (keeps : Keeps (world p)) (solid : IsSolid p.files) where
   abbrev w : List Class
   w = world p
 

@@ -51,22 +51,18 @@ use Rattle.cjc_check_proof.specs.Classes.Premises.{TypesAreKnown}
 use Rattle.cjc_check_proof.specs.Types.Flow.{Body}
 use Rattle.cjc_check_proof.specs.Types.Rules.{is_found_private, is_private_in, names_private, no_member}
 use Rattle.cjc_check_proof.specs.Types.Rules.{receiver_class}
-use Rattle.cjc_narrow_proof.specs.Laws.Unbroken.{IsInsnOf, IsUnbroken}
+use Rattle.cjc_narrow_proof.specs.Laws.Unbroken.{IsInsnOf}
+use Rattle.cjc_token_proof.specs.Subset.Ints.{works_on_int}
 use Rattle.cjc_narrow_proof.proofs.LawsLaws.Own.{first_here}
 use Rattle.cjc_accepted_proof.specs.Carded.{EntriesAreNamed}
 use Rattle.cjc_accepted_proof.specs.Coded.{card_type, is_of}
 use Rattle.cjc_accepted_proof.specs.Frames.{MethodFits, PassesFor, SubtypesAgree}
 use Rattle.cjc_accepted_proof.specs.Served.{entry_for, type_for}
 use Rattle.cjc_accepted_proof.specs.Written.{written_pair}
-use Rattle.cjc_theorem.proofs.ShapeProofOfFiles.{is_of_files}
-use Rattle.cjc_theorem.proofs.ShapeProofOfFiles.{is_of_files}
 use Rattle.cjc_theorem.proofs.AlikeLaws.MetLaws.KeySources.{Calls_method, IsMet, called}
 use Rattle.cjc_theorem.proofs.AlikeLaws.NamedLaws.Names.{fixed_in_class, private_own}
-use Rattle.cjc_theorem.proofs.ShapeProofFiles.{files_sound, own_unbroken}
-use Rattle.cjc_theorem.proofs.ShapeProofWorlds.{own_solid}
-use Rattle.cjc_theorem.specs.LowerJudge.Rules.{settings_of}
-use Rattle.cjc_theorem.specs.LowerJudge.declared.judged.Judged.{Judged}
-use Rattle.cjc_theorem.specs.ShapeProof.Written.Converted.{IsConverted}
+use Rattle.cjc_shape_proof.proofs.WrittenLaws.Checked.{files_sound, own_solid}
+use Rattle.cjc_theorem.specs.ShapeProof.Written.Checked.{IsOfFiles}
 use Rattle.cjc_accepted_theorem.specs.Begins.{Begins}
 use Rattle.cjc_accepted_theorem.specs.ExportsHaveCode.{ExportsHaveCode}
 use Rattle.cjc_accepted_theorem.specs.NamesDesc.{NamesItsDesc}
@@ -74,7 +70,7 @@ use Rattle.cjc_accepted_theorem.proofs.NamedLaws.{abroad, abroad_named}
 use Rattle.cjc_accepted_theorem.proofs.OwnMethodsLaws.{entered, method_entry}
 use Rattle.cjc_accepted_theorem.proofs.PassedLaws.{class_passes}
 use Rattle.cjc_accepted_theorem.proofs.SentLaws.{word_of}
-use Rattle.cjc_accepted_theorem.proofs.TypedLaws.{entry_says, method_fits}
+use Rattle.cjc_accepted_theorem.proofs.TypedLaws.{EntrySays, entry_says, method_fits}
 
 -- methods of one name and descriptor, neither of which an earlier one has, are one
 one_member : (ms : List Member) (name desc : List ℕ) (i j : ℕ) (x y : Member) → slice_get ms i ≡ Some x
@@ -91,10 +87,10 @@ one_member ms name desc i j x y at_i at_j xn xd yn yd once_i once_j =
         v.desc desc) (ap (bytes_eq v.name) (sym n) ∙ name_is v.name) (ap (bytes_eq v.desc) (sym d) ∙ name_is v.desc))
         (subst (λ z. is_twice ms k name z ≡ false) d (subst (λ z. is_twice ms k z v.desc ≡ false) n once))
 
-module _ (list : ListTree) (files : List (List ℕ)) (judged : Judged) (p : Package) (is : IsConverted list files judged
-    p) (subtypes : SubtypesAgree (card_type p) (is_of p) (world p)) (described : described_spots (written_pair p) ≡ [])
+module _ (list : ListTree) (codes : List MethodCode) (p : Package) (is : IsOfFiles list codes p)
+    (subtypes : SubtypesAgree (card_type p) (is_of p) (world p)) (described : described_spots (written_pair p) ≡ [])
     (named : EntriesAreNamed p) (known : TypesAreKnown p)
-    (met : (key : PoolKey) → IsMet p.files judged.codes key → NamesItsDesc p key) (has : HasMethods p) (facts : Facts p)
+    (met : (key : PoolKey) → IsMet p.files codes key → NamesItsDesc p key) (has : HasMethods p) (facts : Facts p)
     (begin : (k : ℕ) (d : Class) → slice_get (class_order (world p)) k ≡ Some d → is_interface d.flags ≡ false
     → (j : ℕ) (f : Found) → slice_get (methods_of_class (world p) d) j ≡ Some f → Begins p d f)
     (coded : ExportsHaveCode p) where
@@ -104,20 +100,14 @@ module _ (list : ListTree) (files : List (List ℕ)) (judged : Judged) (p : Pack
   abbrev q : Pair
   q = written_pair p
 
-  abbrev codes : List MethodCode
-  codes = judged.codes
-
-  abbrev u : IsUnbroken list.name p.files judged.codes (settings_of list)
-  u = own_unbroken list files judged p is
-
   abbrev solid : IsSolid p.files
-  solid = own_solid list files judged p is
+  solid = own_solid list codes p is.checked
 
   abbrev sound : FilesAreSound list.name p.files
-  sound = files_sound list files judged p is
+  sound = files_sound list codes p is.checked
 
   abbrev N : (class : ClassTree) (op : ℕ) (id : MemberId) → Type 0
-  N class op id = Calls_method list judged.codes p (is_of_files list files judged p is) class op id
+  N class op id = Calls_method list codes p is class op id
 
   -- what a static reference says of a method with these flags, of a class of this name
   record Says (method : StaticRef) (owner : List ℕ) (flags : ℕ) : Type 0 where
@@ -166,7 +156,7 @@ module _ (list : ListTree) (files : List (List ℕ)) (judged : Judged) (p : Pack
   own_says class op id n own plain bare =
       let d = n.owner in
       let at = n.at in
-      let e = entered list files judged p is has class op id n own plain in
+      let e = entered list codes p is has class op id n own plain in
       let b = begin e.place d e.owned plain e.number n.place e.listed in
       record {
         static = ap (names_static q) e.ref ∙ ap (holds is_static_described) e.found
@@ -194,7 +184,7 @@ module _ (list : ListTree) (files : List (List ℕ)) (judged : Judged) (p : Pack
       let at = n.at in
       let h = facts.file d.name d n.named import in
       let e = h.entry in
-      let a = abroad list files judged p is facts class op id n import plain bound in
+      let a = abroad list codes p is facts class op id n import plain bound in
       let x = a.listed in
       let rules = rules_of list.name p sound d.name d n.named in
       let here : slice_get d.methods x.place ≡ Some (method_of_export x.method) = ap (λ (v : Class). slice_get v.methods
@@ -224,11 +214,9 @@ module _ (list : ListTree) (files : List (List ℕ)) (judged : Judged) (p : Pack
       by : (b : Bool) → (let d = n.owner in d.is_imported) ≡ b
           → Says (method_ref p (of_class (let d = n.owner in d.name) id)) (let d = n.owner in d.name) (let a = n.at
           in let m = a.member in m.flags)
-      by false own = own_says class op id n own (fixed_in_class list judged.codes p (is_of_files list files judged p
-          is) class op id n fixed) (own_coded
+      by false own = own_says class op id n own (fixed_in_class list codes p is class op id n fixed) (own_coded
           class op id n own fixed)
-      by true import = abroad_says class op id n import (fixed_in_class list judged.codes p (is_of_files list files
-          judged p is) class op id n fixed)
+      by true import = abroad_says class op id n import (fixed_in_class list codes p is class op id n fixed)
           (bound import)
 
   -- ---- calls
@@ -243,44 +231,38 @@ module _ (list : ListTree) (files : List (List ℕ)) (judged : Judged) (p : Pack
   fixed_named class op id n fixed bound = by (let d = n.owner in d.is_imported) refl
     where
       plain : (let d = n.owner in is_interface d.flags) ≡ false
-      plain = fixed_in_class list judged.codes p (is_of_files list files judged p is) class op id n fixed
+      plain = fixed_in_class list codes p is class op id n fixed
 
       by : (b : Bool) → (let d = n.owner in d.is_imported) ≡ b
           → named_desc q (entry_of (names p) (keys.StaticMethod (of_class (let d = n.owner in d.name) id)))
           ≡ Some id.desc
-      by false own = method_entry list files judged p is has class op id n own plain
-      by true import = abroad_named list files judged p is facts class op id n import plain (bound import)
+      by false own = method_entry list codes p is has class op id n own plain
+      by true import = abroad_named list codes p is facts class op id n import plain (bound import)
 
   -- its type is that of its descriptor
   typed : (class : ClassTree) (op : ℕ) (id : MemberId) (n : N class op id)
-      → IsInsnOf p.files codes class (jop.Call op id)
       → Holds (naming p) (keys.StaticMethod (of_class (let d = n.owner in d.name) id))
       → named_desc q (entry_of (names p) (keys.StaticMethod (of_class (let d = n.owner in d.name) id))) ≡ Some id.desc
-      → MethodFits (card_type p) id (type_for q (names p) (keys.StaticMethod (of_class (let d = n.owner in d.name) id)))
-  typed class op id n of held its =
-      let d = n.owner in
-      let g = of_class d.name id in
-      let s = entry_says p described named known (keys.StaticMethod g) held id.desc its in
-      let t = method_fits p (keys.StaticMethod g) g s (word_of list files judged p is subtypes described named known met
-      class op id of) in
-      record { params = t.params; result = t.result }
+      → EntrySays p (keys.StaticMethod (of_class (let d = n.owner in d.name) id)) id.desc
+  typed class op id n held its = entry_says p described named known (keys.StaticMethod (of_class (let d = n.owner
+      in d.name) id)) held id.desc its
 
-  -- what an invokestatic names
-  pub record StaticAt (id g : MemberId) : Type 0 where
+  -- what an invokestatic names, of whatever types
+  pub record StaticEntry (id g : MemberId) : Type 0 where
     pub method : StaticRef
     pub entry : entry_for q (names p) (keys.StaticMethod g) ≡ Some (entries.StaticMethodref method)
     pub right : (not (names_static q method) || names_abstract q method) ≡ false
-    pub fits : MethodFits (card_type p) id (type_for q (names p) (keys.StaticMethod g))
+    pub says : EntrySays p (keys.StaticMethod g) id.desc
 
-  pub static_at : (class : ClassTree) (id : MemberId) → IsInsnOf p.files codes class (jop.Call 0xB8 id)
-      → Holds (naming p) (keys.StaticMethod (resolved_method w id)) → StaticAt id (resolved_method w id)
-  static_at class id of holds =
-      let n = called list judged.codes p (is_of_files list files judged p is) class 0xB8 id of in
-      subst (StaticAt id) (sym n.resolved) (made n (subst (λ (g : MemberId). Holds (naming p) (keys.StaticMethod g))
+  pub static_entry : (class : ClassTree) (id : MemberId) → IsInsnOf p.files codes class (jop.Call 0xB8 id)
+      → Holds (naming p) (keys.StaticMethod (resolved_method w id)) → StaticEntry id (resolved_method w id)
+  static_entry class id of holds =
+      let n = called list codes p is class 0xB8 id of in
+      subst (StaticEntry id) (sym n.resolved) (made n (subst (λ (g : MemberId). Holds (naming p) (keys.StaticMethod g))
       n.resolved holds))
     where
       made : (n : N class 0xB8 id) → Holds (naming p) (keys.StaticMethod (of_class (let d = n.owner in d.name) id))
-          → StaticAt id (of_class (let d = n.owner in d.name) id)
+          → StaticEntry id (of_class (let d = n.owner in d.name) id)
       made n held =
           let d = n.owner in
           let flags = (let a = n.at in let m = a.member in m.flags) in
@@ -295,22 +277,22 @@ module _ (list : ListTree) (files : List (List ℕ)) (judged : Judged) (p : Pack
             entry = held.there;
             right = ap (λ b. not b || names_abstract q (method_ref p (of_class d.name id))) (s.static ∙ static) ∙
                 s.bare;
-            fits = typed class 0xB8 id n of held (fixed_named class 0xB8 id n fixed (λ import. bound));
+            says = typed class 0xB8 id n held (fixed_named class 0xB8 id n fixed (λ import. bound));
           }
 
-  -- what an invokespecial names that is a constructor or private
-  pub record FixedAt (id g : MemberId) : Type 0 where
+  -- what an invokespecial names that is a constructor or private, of whatever types
+  pub record FixedEntry (id g : MemberId) : Type 0 where
     pub method : StaticRef
     pub entry : entry_for q (names p) (keys.StaticMethod g) ≡ Some (entries.StaticMethodref method)
     pub right : (names_static q method || names_abstract q method) ≡ false
-    pub fits : MethodFits (card_type p) id (type_for q (names p) (keys.StaticMethod g))
+    pub says : EntrySays p (keys.StaticMethod g) id.desc
     pub passes : PassesFor (card_type p) (is_of p) w id.class (holder_of q method)
 
-  pub fixed_at : (class : ClassTree) (id : MemberId) → (of : IsInsnOf p.files codes class (jop.Call 0xB7 id))
-      → (n : N class 0xB7 id) → (is_constructor id.name || is_private (let a = n.at in let m = a.member in m.flags))
+  pub fixed_entry : (class : ClassTree) (id : MemberId) → (n : N class 0xB7 id)
+      → (is_constructor id.name || is_private (let a = n.at in let m = a.member in m.flags))
       ≡ true → Holds (naming p) (keys.StaticMethod (of_class (let d = n.owner in d.name) id))
-      → FixedAt id (of_class (let d = n.owner in d.name) id)
-  fixed_at class id of n either held =
+      → FixedEntry id (of_class (let d = n.owner in d.name) id)
+  fixed_entry class id n either held =
       let d = n.owner in
       let at = n.at in
       let flags = (let m = at.member in m.flags) in
@@ -319,8 +301,7 @@ module _ (list : ListTree) (files : List (List ℕ)) (judged : Judged) (p : Pack
       let fixed = three (is_static flags) (is_private flags) (is_constructor id.name) either in
       let unbound : (let o = n.owner in o.is_imported) ≡ true → is_unbound flags (let m = at.member in m.name) ≡ true =
       λ import. bound (is_static flags) (is_constructor id.name) (is_private flags) (is_constructor (let m = at.member
-      in m.name)) (sym bound_name) either (λ private. private_own list judged.codes p (is_of_files list files judged
-      p is) class 0xB7 id n private)
+      in m.name)) (sym bound_name) either (λ private. private_own list codes p is class 0xB7 id n private)
       import in
       let s = says class 0xB7 id n fixed unbound in
       let plain : is_static flags ≡ false = (let g = n.fits in g.on_object) refl in
@@ -328,9 +309,9 @@ module _ (list : ListTree) (files : List (List ℕ)) (judged : Judged) (p : Pack
         method = method_ref p (of_class d.name id);
         entry = held.there;
         right = ap (λ b. b || names_abstract q (method_ref p (of_class d.name id))) (s.static ∙ plain) ∙ s.bare;
-        fits = typed class 0xB7 id n of held (fixed_named class 0xB7 id n fixed unbound);
+        says = typed class 0xB7 id n held (fixed_named class 0xB7 id n fixed unbound);
         passes = subst (λ type. PassesFor (card_type p) (is_of p) w id.class type) (sym s.holder) (class_passes list
-            files judged p is subtypes id.class d.name n.named_class d n.names_class n.named n.below);
+            codes p is subtypes id.class d.name n.named_class d n.names_class n.named n.below);
       }
     where
       three : (a b c : Bool) → (c || b) ≡ true → (a || b || c) ≡ true
@@ -346,6 +327,50 @@ module _ (list : ListTree) (files : List (List ℕ)) (judged : Judged) (p : Pack
       bound false false true e f g own import = (let no = own refl in let clash : true ≡ false = sym import ∙ no in
           absurd cc)
       bound false false false e f g own import = absurd cc
+
+  -- ---- where its types are of one word
+
+  pub record StaticAt (id g : MemberId) : Type 0 where
+    pub method : StaticRef
+    pub entry : entry_for q (names p) (keys.StaticMethod g) ≡ Some (entries.StaticMethodref method)
+    pub right : (not (names_static q method) || names_abstract q method) ≡ false
+    pub fits : MethodFits (card_type p) id (type_for q (names p) (keys.StaticMethod g))
+
+  pub static_at : (class : ClassTree) (id : MemberId) → IsInsnOf p.files codes class (jop.Call 0xB8 id)
+      → works_on_int (jop.Call 0xB8 id) ≡ false
+      → Holds (naming p) (keys.StaticMethod (resolved_method w id)) → StaticAt id (resolved_method w id)
+  static_at class id of free holds =
+      let e = static_entry class id of holds in
+      record {
+        method = e.method;
+        entry = e.entry;
+        right = e.right;
+        fits = method_fits p (keys.StaticMethod (resolved_method w id)) id e.says (word_of list codes p is subtypes
+            described named known met class 0xB8 id of free);
+      }
+
+  pub record FixedAt (id g : MemberId) : Type 0 where
+    pub method : StaticRef
+    pub entry : entry_for q (names p) (keys.StaticMethod g) ≡ Some (entries.StaticMethodref method)
+    pub right : (names_static q method || names_abstract q method) ≡ false
+    pub fits : MethodFits (card_type p) id (type_for q (names p) (keys.StaticMethod g))
+    pub passes : PassesFor (card_type p) (is_of p) w id.class (holder_of q method)
+
+  pub fixed_at : (class : ClassTree) (id : MemberId) → IsInsnOf p.files codes class (jop.Call 0xB7 id)
+      → works_on_int (jop.Call 0xB7 id) ≡ false
+      → (n : N class 0xB7 id) → (is_constructor id.name || is_private (let a = n.at in let m = a.member in m.flags))
+      ≡ true → Holds (naming p) (keys.StaticMethod (of_class (let d = n.owner in d.name) id))
+      → FixedAt id (of_class (let d = n.owner in d.name) id)
+  fixed_at class id of free n either held =
+      let e = fixed_entry class id n either held in
+      record {
+        method = e.method;
+        entry = e.entry;
+        right = e.right;
+        fits = method_fits p (keys.StaticMethod (of_class (let d = n.owner in d.name) id)) id e.says (word_of list codes
+            p is subtypes described named known met class 0xB7 id of free);
+        passes = e.passes;
+      }
 
   -- the receiver of a constructor or a private method is of the class that is named
   pub private_is : (id : MemberId) (d : Class) (f : Found) (at : IsAt false id.name id.desc d f)

@@ -6,6 +6,7 @@ use Rattle.std.specs.List.{list_all, list_any}
 use Rattle.std.proofs.lemmas.List.{length-map}
 use Rattle.std.proofs.lemmas.List.Concat.{flat_map-cons}
 use Rattle.std.proofs.lemmas.Map.Keys.{any_passes_from_place}
+use Rattle.cjc_verified_proof.specs.Bytecode.declared.method_code.MethodCode.{MethodCode}
 use Rattle.cjc_verified_proof.specs.Bytes.AccessFlags.{is_abstract, is_interface, is_static}
 use Rattle.cjc_verified_proof.specs.Bytes.Descriptor.{Parts}
 use Rattle.cjc_verified_proof.specs.Bytes.declared.fault.MemberId.{MemberId}
@@ -52,14 +53,13 @@ use Rattle.cjc_verified_proof.specs.Narrow.Rows.Resolved.{argument_words, method
 use Rattle.cjc_verified_proof.specs.Script.Sorts.{Boolean, Byte, Int, NoValue, Reference, Short, Signature, Sort}
 use Rattle.cjc_verified_proof.specs.Script.Sorts.{result_by}
 use Rattle.cjc_verified_proof.specs.Script.Sorts.{signature_by, signature_of, sort_of}
-use Rattle.cjc_theorem.proofs.ShapeSound.{are_ready}
+use Rattle.cjc_narrow_proof.proofs.LawsLaws.Own.{flags_by_name}
 use Rattle.cjc_theorem.proofs.ShapeProofDescs.{member_desc}
-use Rattle.cjc_theorem.proofs.ShapeProofFiles.{files_sound, read_files, same_files}
 use Rattle.cjc_theorem.proofs.ShapeProofMeant.{added_method}
 use Rattle.cjc_theorem.proofs.ShapeProofOrder.{order_filed}
-use Rattle.cjc_theorem.proofs.ShapeProofWorlds.{own_solid}
+use Rattle.cjc_shape_proof.proofs.WrittenLaws.Checked.{files_sound, own_solid, read_files}
 use Rattle.cjc_theorem.specs.LowerJudge.declared.judged.Judged.{Judged}
-use Rattle.cjc_theorem.specs.ShapeProof.Written.Converted.{IsConverted}
+use Rattle.cjc_theorem.specs.ShapeProof.Written.Checked.{IsOfFiles}
 use Rattle.cjc_theorem.specs.ShapeProof.Written.LaidOut.{IsLaidOut}
 use Rattle.cjc_verified_proof.proofs.TokenProofClean.{own_name}
 use Rattle.cjc_verified_proof.proofs.TokenProofOrder.{kind-in, order_has, order_in, own_names}
@@ -86,10 +86,9 @@ use Rattle.cjc_verified_proof.specs.Tokens.Members.{is_initialiser}
 use Rattle.cjc_theorem.proofs.VTableFiled.{Has, at_front, behind, get-has, has-get}
 use Rattle.cjc_verified_proof.specs.World.Added.{added, without_initialiser}
 use Rattle.cjc_verified_proof.specs.ExportFile.Members.{as_desc, same_bool}
-use Rattle.cjc_verified_proof.specs.World.Classes.{Class, Member, all_classes, class_at, class_named, declared}
+use Rattle.cjc_verified_proof.specs.World.Classes.{Class, Member, class_at, class_named, declared}
 use Rattle.cjc_verified_proof.specs.World.Classes.{field_of_class}
 use Rattle.cjc_verified_proof.specs.World.Classes.{method_of_class}
-use Rattle.cjc_verified_proof.specs.World.Files.{Files}
 use Rattle.cjc_verified_proof.specs.World.Lookup.{member_at}
 use Rattle.cjc_verified_proof.specs.World.Order.{class_order, in_order, method_order, methods_in_turn, methods_of_class}
 use Rattle.cjc_verified_proof.specs.World.declared.found.Found.{Found}
@@ -170,8 +169,7 @@ said_type (Some t) ns e = ap (λ xs. type_by (types_in xs)) (same_some e)
 
 -- ---- a converted package
 
-module _ (list : ListTree) (files : List (List ℕ)) (judged : Judged) (p : Package) (is : IsConverted list files judged
-    p) where
+module _ (list : ListTree) (codes : List MethodCode) (p : Package) (is : IsOfFiles list codes p) where
   abbrev w : List Class
   w = world p
 
@@ -179,7 +177,7 @@ module _ (list : ListTree) (files : List (List ℕ)) (judged : Judged) (p : Pack
   q = written_pair p
 
   abbrev sound : IsSound list.name p.files
-  sound = files_sound list files judged p is
+  sound = files_sound list codes p is.checked
 
   -- each method of each class of the package that is no interface begins as it should
   abbrev pub ClassesBegin : Type 0
@@ -207,14 +205,8 @@ module _ (list : ListTree) (files : List (List ℕ)) (judged : Judged) (p : Pack
         desc = x.desc;
       })) ≡ x.flags
   found_flags n i t x e f =
-      let ready = are_ready list files judged is.sound in
-      let same = same_files list files judged p is in
-      ap (λ (v : Files). flags_of (method_found (all_classes v) (record {
-        class = t.name;
-        name = x.name;
-        desc = x.desc;
-      }))) same
-      ∙ ready.found n i t x (ap (λ (v : Files). slice_get v.classes n) (sym same) ∙ e) f
+      let its = is.checked in
+      flags_by_name p.files list.name its.listed its.unbroken n t e i x f
 
   -- code stands where a method is not abstract
   bare_one : (t : ClassTree) (x : MethodTree) (n i : ℕ) → (let v = p.files in slice_get v.classes n ≡ Some t)
@@ -225,7 +217,7 @@ module _ (list : ListTree) (files : List (List ℕ)) (judged : Judged) (p : Pack
       by : (b : Bool) → is_abstract x.flags ≡ b → b ≡ true
       by true g = refl
       by false g =
-          let solid = own_solid list files judged p is in
+          let solid = own_solid list codes p is.checked in
           let c = solid.coded t x (record { number = n; place = i; is_class = e; is_method = f }) g in
           let no : (let k = method_by t x x.code in k.is_abstract) ≡ false = ap (λ o. let k = method_by t x o
           in k.is_abstract) c.1 in
@@ -303,7 +295,7 @@ module _ (list : ListTree) (files : List (List ℕ)) (judged : Judged) (p : Pack
         let there = get-has d (class_order w) k here in
         let o = order_in list.name p.files sound d there in
         let t = order_filed p.files d there in
-        let solid = own_solid list files judged p is in
+        let solid = own_solid list codes p is.checked in
         let named = own_name list.name p.files sound d o.0 in
         let numbered : class_at w false d.number ≡ Some d = ap (λ b. class_at w b d.number) (sym o.1)
         ∙ solid.numbered d.name d named in
@@ -432,14 +424,15 @@ module _ (list : ListTree) (files : List (List ℕ)) (judged : Judged) (p : Pack
         by None f g = absurd cc
         by (Some d) f g = go d f d.is_method refl g
 
-    signed : IsLaidOut list files judged p → (d : Class) → class_named w d.name ≡ Some d → (f : Found) → IsMethodOf w d f → (s : Signature)
+    signed : (files : List (List ℕ)) (judged : Judged) → IsLaidOut list files judged p → (d : Class)
+        → class_named w d.name ≡ Some d → (f : Found) → IsMethodOf w d f → (s : Signature)
         × (signature_of (let m = method_in w d f.member in m.desc) ≡ Some s)
-    signed laid d named f (of_file i m is_m is_f same plain) =
-        let r = member_desc p.files (read_files list files judged p is) d named i m is_m in
+    signed files judged laid d named f (of_file i m is_m is_f same plain) =
+        let r = member_desc p.files (read_files list codes p is.checked) d named i m is_m in
         let t = r.0 in
         subst (λ (y : Member). (s : Signature) × (signature_of y.desc ≡ Some s)) (sym same) (types_there m.desc t.0 t.1
         t.2)
-    signed laid d named f (of_interfaces i m is_m is_f same) =
+    signed files judged laid d named f (of_interfaces i m is_m is_f same) =
         let r = (added_method list files judged p laid d.name d named i m is_m).0 in
         subst (λ (y : Member). (s : Signature) × (signature_of y.desc ≡ Some s)) (sym same) (written_types m.desc
         r.is_desc)
@@ -447,7 +440,7 @@ module _ (list : ListTree) (files : List (List ℕ)) (judged : Judged) (p : Pack
     -- ---- headers
 
     module _ (whole : whole_spots (components p) ≡ []) (jump : jump_spots (components p) ≡ [])
-        (card : HasCardTypes p) (laid : IsLaidOut list files judged p) where
+        (card : HasCardTypes p) (files : List (List ℕ)) (judged : Judged) (laid : IsLaidOut list files judged p) where
       card_both : (desc : List ℕ) (s : Signature) → signature_of desc ≡ Some s → IsOnCard desc
           → (list_all is_card_sort s.params && is_card_result s.result) ≡ true
       card_both desc s e on = sym (ap (is_card_type desc) e) ∙ on
@@ -525,7 +518,7 @@ module _ (list : ListTree) (files : List (List ℕ)) (judged : Judged) (p : Pack
           let offset : md.offset ≡ method_offset p f = ap (λ (x : MethodDescriptor). x.offset) (sym of.same) in
           let same : start_at 0 md.offset b.header md ≡ begun.start = same_some (sym begins_here ∙ ap (start_of
           (loaded p) 0) offset ∙ begun.starts) in
-          let sign = signed laid d named f method in
+          let sign = signed files judged laid d named f method in
           let place_of_class = has-get d (class_order w) listed in
           let on = card.methods place_of_class.0 d place_of_class.1 of.place_in f of.is_found in
           let words : (let h = b.header in h.nargs) ≡ headers.argument_words q b =

@@ -17,7 +17,7 @@ use Rattle.cjc_verified_proof.specs.CardSemantics.Machine.Classes as card
 use Rattle.cjc_verified_proof.specs.CardSemantics.Machine.Dispatch.{NotFound, Outward, interface_method, named_in}
 use Rattle.cjc_verified_proof.specs.CardSemantics.Machine.Dispatch.{of_file, of_names, outward}
 use Rattle.cjc_verified_proof.specs.ClassFile.declared.tree.ClassTree.{ClassTree}
-use Rattle.cjc_verified_proof.specs.Components.Class.{class_entry, interface_entry}
+use Rattle.cjc_verified_proof.specs.Components.Class.{class_entry, interface_entry as as_interface}
 use Rattle.cjc_verified_proof.specs.Components.Names.{class_at, class_ref, names, token_in_interface}
 use Rattle.cjc_verified_proof.specs.Components.Package.{Package, world}
 use Rattle.cjc_verified_proof.specs.Components.Paired.Naming.{signature_name}
@@ -41,16 +41,15 @@ use Rattle.cjc_verified_proof.specs.World.Classes.{Class, class_named}
 use Rattle.cjc_world.specs.Rules.{is_desc_missing}
 use Rattle.cjc_verified_proof.specs.Tokens.Members.{Signature, same}
 use Rattle.cjc_verified_proof.specs.Tokens.Methods.{interface_methods}
-use Rattle.cjc_theorem.proofs.ShapeProofOfFiles.{is_of_files}
 use Rattle.cjc_theorem.specs.VTable.Tables.{or_zero}
 use Rattle.cjc_token_proof.proofs.ByToken.Members.{bytes_tell}
 use Rattle.cjc_token_proof.proofs.WrittenCalls.Files.{position_has}
 use Rattle.cjc_check_proof.specs.Classes.Premises.{is_known, types_known}
 use Rattle.cjc_check_proof.specs.Types.Types.{parts}
 use Rattle.cjc_ncode.specs.Written.{nargs_of, words_by}
-use Rattle.cjc_narrow_proof.specs.Laws.Unbroken.{IsInsnOf, IsUnbroken}
+use Rattle.cjc_narrow_proof.specs.Laws.Unbroken.{IsInsnOf, KeepsNames}
 use Rattle.cjc_narrow_proof.specs.Tables.Calls.{IsWordDesc}
-use Rattle.cjc_narrow_proof.proofs.LawsLaws.Instructions.{kept_names, op_there}
+use Rattle.cjc_narrow_proof.proofs.LawsLaws.Instructions.{op_there}
 use Rattle.cjc_shape_proof.proofs.FindsLaws.Descs.{member_desc}
 use Rattle.cjc_accepted_proof.specs.CardActs.CardTypes.{MemberType, type_by, types_in, widths}
 use Rattle.cjc_accepted_proof.specs.Coded.{card_type, is_of}
@@ -58,21 +57,19 @@ use Rattle.cjc_accepted_proof.specs.Frames.{MethodFits, PassesFor, SubtypesAgree
 use Rattle.cjc_accepted_proof.specs.Served.{entry_for}
 use Rattle.cjc_accepted_proof.specs.Written.{written_pair}
 use Rattle.cjc_theorem.proofs.AlikeLaws.InterfaceCalls.Interfaces.{interface_named}
-use Rattle.cjc_theorem.proofs.ShapeProofOfFiles.{is_of_files}
 use Rattle.cjc_theorem.proofs.AlikeLaws.MetLaws.Descs.{desc_known}
 use Rattle.cjc_theorem.proofs.AlikeLaws.MetLaws.KeySources.{Calls_method, called}
-use Rattle.cjc_theorem.proofs.ShapeProofFiles.{files_sound, own_unbroken, read_files}
 use Rattle.cjc_theorem.specs.LowerJudge.Rules.{settings_of}
-use Rattle.cjc_theorem.specs.LowerJudge.declared.judged.Judged.{Judged}
-use Rattle.cjc_theorem.specs.ShapeProof.Written.Converted.{IsConverted}
+use Rattle.cjc_shape_proof.proofs.WrittenLaws.Checked.{files_sound, own_names, read_files}
+use Rattle.cjc_theorem.specs.ShapeProof.Written.Checked.{IsOfFiles}
 use Rattle.cjc_verify.specs.ClassTypes.{class_type}
 use Rattle.cjc_accepted_theorem.proofs.HeadersLaws.{word_sorts}
 use Rattle.cjc_accepted_theorem.proofs.PassedLaws.{class_passes}
-use Rattle.cjc_accepted_theorem.proofs.TypedLaws.{typed_as, word_fits, word_on, word_signature}
-use Rattle.cjc_accepted_theorem.proofs.TypedLaws.{word_typed}
+use Rattle.cjc_accepted_theorem.proofs.TypedLaws.{AreOnCard, desc_typed, sorts_in, typed_as, word_fits}
+use Rattle.cjc_accepted_theorem.proofs.TypedLaws.{word_on, word_signature}
 
-module _ (list : ListTree) (files : List (List ℕ)) (judged : Judged) (p : Package) (is : IsConverted list files judged
-    p) (subtypes : SubtypesAgree (card_type p) (is_of p) (world p)) (facts : Facts p) (keep : ExportsKeep p) where
+module _ (list : ListTree) (codes : List MethodCode) (p : Package) (is : IsOfFiles list codes p)
+    (subtypes : SubtypesAgree (card_type p) (is_of p) (world p)) (facts : Facts p) (keep : ExportsKeep p) where
   abbrev w : List Class
   w = world p
 
@@ -82,11 +79,8 @@ module _ (list : ListTree) (files : List (List ℕ)) (judged : Judged) (p : Pack
   abbrev n : Naming
   n = naming p
 
-  abbrev codes : List MethodCode
-  codes = judged.codes
-
-  abbrev u : IsUnbroken list.name p.files judged.codes (settings_of list)
-  u = own_unbroken list files judged p is
+  abbrev u : KeepsNames list.name p.files codes (settings_of list)
+  u = own_names list codes p is.checked
 
   -- ---- a token among an interface's methods
 
@@ -147,7 +141,7 @@ module _ (list : ListTree) (files : List (List ℕ)) (judged : Judged) (p : Pack
         by false own =
             let h = facts.own m.class i known own in
             ap (card.is_interface n.loaded) (sym (ap (class_at p) name) ∙ h.on_card) ∙ ap card.is_interface_info h.info
-            ∙ ap (λ b. card.is_interface_info (Some (if b then card.IsInterface (interface_entry (class_ref p) w i)
+            ∙ ap (λ b. card.is_interface_info (Some (if b then card.IsInterface (as_interface (class_ref p) w i)
             else card.IsClass (class_entry (class_ref p) p i)))) interface_here
         by true import =
             let h = facts.file m.class i known import in
@@ -157,7 +151,7 @@ module _ (list : ListTree) (files : List (List ℕ)) (judged : Judged) (p : Pack
     pub desc_is : interface_desc (loaded p) (n.interface_token m) (card.class_of (loaded p) 0 (class_ref p m.class))
         ≡ Some m.desc
     desc_is =
-        let kinds = says_kinds list.name p (files_sound list files judged p is) in
+        let kinds = says_kinds list.name p (files_sound list codes p is.checked) in
         ap (interface_desc (loaded p) (n.interface_token m)) (kinds.class_ref m.class (ap is_some known))
         ∙ ap (λ b. if b then selection_desc (interface_method (loaded p) (class_at p m.class) (n.interface_token m))
         else None) on_card
@@ -165,7 +159,15 @@ module _ (list : ListTree) (files : List (List ℕ)) (judged : Judged) (p : Pack
 
   -- ---- calls
 
-  -- what is said of a method of an interface
+  -- what is said of a method of an interface, of whatever types
+  pub record InterfaceEntry (id m : MemberId) : Type 0 where
+    pub entry : entry_for q (names p) (keys.Class m.class) ≡ Some (entries.Classref (class_ref p m.class))
+    pub type_is : (let v = names p in interface_type q (class_ref p m.class) (v.interface_token m)) ≡ option_map (λ ns.
+        type_by (types_in ns)) (nibbles_of q id.desc)
+    pub known : types_known (is_known w) id.desc (signature_of id.desc) ≡ true
+    pub passes : PassesFor (card_type p) (is_of p) w id.class (class_type (class_ref p m.class))
+
+  -- and where its types are of one word
   pub record InterfaceAt (id m : MemberId) : Type 0 where
     pub type : MemberType
     pub entry : entry_for q (names p) (keys.Class m.class) ≡ Some (entries.Classref (class_ref p m.class))
@@ -184,45 +186,62 @@ module _ (list : ListTree) (files : List (List ℕ)) (judged : Judged) (p : Pack
       word_sorts (pairs.class_ref q) (map sort_of d.params) (and_true (list_all is_card_sort (map sort_of d.params))
       (is_card_result (result_by r.kind r)) on).0
 
+  -- so are those of the call
+  pub call_words : (id : MemberId) → signature_of id.desc ≡ Some (sorts_in p id.desc) → AreOnCard p id.desc
+      → nargs_of id ≡ 1 + widths (let t = typed_as p id.desc in t.params)
+  call_words id sig on = ap words_by sig ∙ ap (λ v. 1 + v) (sym (word_count id.desc on))
+
   -- what its descriptor names is known
   desc_read : (class : ClassTree) (id : MemberId) → IsInsnOf p.files codes class (jop.Call 0xB9 id)
       → types_known (is_known w) id.desc (signature_of id.desc) ≡ true
   unfolding names_missing
   desc_read class id of =
-      let c = called list judged.codes p (is_of_files list files judged p is) class 0xB9 id of in
+      let c = called list codes p is class 0xB9 id of in
       let at = c.at in
-      let ok = op_there list.name p.files codes (settings_of list) (kept_names u) class (jop.Call 0xB9 id) of in
-      let short = (member_desc p.files (read_files list files judged p is) c.owner c.named at.place at.member
+      let ok = op_there list.name p.files codes (settings_of list) u class (jop.Call 0xB9 id) of in
+      let short = (member_desc p.files (read_files list codes p is.checked) c.owner c.named at.place at.member
       at.is_member).1 in
       desc_known w id.desc (subst (λ v. length v < 2 ^ 32) at.has_desc short) (or_right (is_name_missing w id.class)
       (is_desc_missing w id.desc) ok.0)
+
+  pub interface_entry : (class : ClassTree) (id : MemberId) → IsInsnOf p.files codes class (jop.Call 0xB9 id)
+      → Holds (naming p) (keys.Class (let g = resolved_method w id in g.class))
+      → InterfaceEntry id (resolved_method w id)
+  interface_entry class id of holds =
+      let c = called list codes p is class 0xB9 id of in
+      subst (InterfaceEntry id) (sym c.resolved) (by c (subst (λ (g : MemberId). Holds (naming p) (keys.Class g.class))
+      c.resolved holds) (subst (λ g. IsNamed w (OnInterface 1 g)) c.resolved (interface_named list codes p is class id
+      of 1)))
+    where
+      by : (c : Calls_method list codes p is class 0xB9 id)
+          → Holds (naming p) (keys.Class (let d = c.owner in d.name))
+          → IsNamed w (OnInterface 1 (of_class (let d = c.owner in d.name) id))
+          → InterfaceEntry id (of_class (let d = c.owner in d.name) id)
+      by c held (on_interface i k known here plain placed) =
+          let d = c.owner in
+          let m = of_class d.name id in
+          record {
+            entry = held.there;
+            type_is = ap (λ o. option_map (λ ns. type_by (types_in ns)) (option_and_then (nibbles_of q) o)) (desc_is m i
+                k known here placed);
+            known = desc_read class id of;
+            passes = class_passes list codes p is subtypes id.class d.name c.named_class d c.names_class c.named
+                c.below;
+          }
 
   pub interface_at : (class : ClassTree) (id : MemberId) → IsWordDesc id.desc
       → IsInsnOf p.files codes class (jop.Call 0xB9 id)
       → Holds (naming p) (keys.Class (let g = resolved_method w id in g.class))
       → InterfaceAt id (resolved_method w id)
   interface_at class id word of holds =
-      let c = called list judged.codes p (is_of_files list files judged p is) class 0xB9 id of in
-      subst (InterfaceAt id) (sym c.resolved) (by c (subst (λ (g : MemberId). Holds (naming p) (keys.Class g.class))
-      c.resolved holds) (subst (λ g. IsNamed w (OnInterface 1 g)) c.resolved (interface_named list judged.codes p
-      (is_of_files list files judged p is)
-      class id of 1)))
-    where
-      by : (c : Calls_method list judged.codes p (is_of_files list files judged p is) class 0xB9 id)
-          → Holds (naming p) (keys.Class (let d = c.owner in d.name))
-          → IsNamed w (OnInterface 1 (of_class (let d = c.owner in d.name) id))
-          → InterfaceAt id (of_class (let d = c.owner in d.name) id)
-      by c held (on_interface i k known here plain placed) =
-          let d = c.owner in
-          let m = of_class d.name id in
-          let on = word_on p id.desc word in
-          record {
-            type = typed_as p id.desc;
-            entry = held.there;
-            typed = ap (λ o. option_map (λ ns. type_by (types_in ns)) (option_and_then (nibbles_of q) o)) (desc_is m i k
-                known here placed) ∙ word_typed p id.desc word;
-            words = ap words_by (word_signature p id.desc word) ∙ ap (λ v. 1 + v) (sym (word_count id.desc on));
-            fits = word_fits p id word (desc_read class id of);
-            passes = class_passes list files judged p is subtypes id.class d.name c.named_class d c.names_class c.named
-                c.below;
-          }
+      let e = interface_entry class id of holds in
+      let sig = word_signature p id.desc word in
+      let on = word_on p id.desc word in
+      record {
+        type = typed_as p id.desc;
+        entry = e.entry;
+        typed = e.type_is ∙ desc_typed p id.desc sig on;
+        words = call_words id sig on;
+        fits = word_fits p id word e.known;
+        passes = e.passes;
+      }

@@ -1,9 +1,9 @@
-mod CardTypes
+pub mod CardTypes
 mod CellsLaws
 mod EntriesLaws
-mod HeadersLaws
+pub mod HeadersLaws
 mod NamedLaws
-mod PoolLaws
+pub mod PoolLaws
 mod MethodsLaws
 mod OwnMethodsLaws
 mod RefsLaws
@@ -14,21 +14,24 @@ mod ConcreteLaws
 mod OutwardLaws
 mod AbstractLaws
 mod NoAbstractLaws
-mod TypedLaws
-mod PassedLaws
-mod MembersLaws
-mod SentLaws
-mod ServedLaws
-mod FixedLaws
-mod ThrownLaws
-mod InterfaceLaws
+pub mod TypedLaws
+pub mod PassedLaws
+pub mod MembersLaws
+pub mod SentLaws
+pub mod TypesLaws
+pub mod ServedLaws
+pub mod FixedLaws
+pub mod ThrownLaws
+pub mod InterfaceLaws
 mod CutLaws
 mod BodiesLaws
-mod CodedLaws
-mod CaughtLaws
+pub mod CodedLaws
+pub mod CaughtLaws
 mod NamingLaws
 mod ExportsLaws
-mod AboveLaws
-mod ReadLaws
+pub mod AboveLaws
+pub mod ReadLaws
+mod BesideLaws
 mod RootLaws
 mod FewLaws
+pub mod KnownLaws

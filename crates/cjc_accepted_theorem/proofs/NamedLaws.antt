@@ -5,6 +5,7 @@ use Rattle.std.proofs.Common.{[], ◌∷◌}
 use Rattle.std.specs.Prelude.{◌&&◌, cond, Some, if◌then◌else◌, option_and_then, option_map, slice_get}
 use Rattle.std.specs.Prelude.{unwrap_or}
 use Rattle.std.specs.List.{find}
+use Rattle.cjc_verified_proof.specs.Bytecode.declared.method_code.MethodCode.{MethodCode}
 use Rattle.cjc_verified_proof.specs.Bytes.AccessFlags.{is_interface}
 use Rattle.cjc_verified_proof.specs.Bytes.declared.fault.MemberId.{MemberId}
 use Rattle.cjc_verified_proof.specs.CapRead.declared.tree.ClassRef.TheVariants.{Inside, Outside}
@@ -50,12 +51,10 @@ use Rattle.cjc_theorem.specs.VTable.Meant.{PackageTokensMean, TokensMean}
 use Rattle.cjc_verified_proof.proofs.WorldProofOwn.{IsAt}
 use Rattle.cjc_verified_proof.proofs.TokenProofWrittenCallsFacts.{Facts}
 use Rattle.cjc_verified_proof.proofs.TokenProofWrittenCallsTables.{import_at}
-use Rattle.cjc_theorem.specs.LowerJudge.declared.judged.Judged.{Judged}
-use Rattle.cjc_theorem.specs.ShapeProof.Written.Converted.{IsConverted}
-use Rattle.cjc_theorem.proofs.ShapeProofOfFiles.{is_of_files}
+use Rattle.cjc_shape_proof.proofs.WrittenLaws.Checked.{files_sound}
+use Rattle.cjc_theorem.specs.ShapeProof.Written.Checked.{IsOfFiles}
 use Rattle.cjc_theorem.proofs.AlikeLaws.MetLaws.Own.{Names_method}
 use Rattle.cjc_theorem.proofs.AlikeLaws.NamedLaws.Abroad.{fixed_abroad}
-use Rattle.cjc_theorem.proofs.ShapeProofFiles.{files_sound}
 use Rattle.cjc_accepted_proof.proofs.CheckProofSupers.{entry_there}
 use Rattle.cjc_accepted_proof.specs.Written.{written_pair}
 use Rattle.cjc_accepted_theorem.proofs.FieldsLaws.{class_there}
@@ -188,11 +187,10 @@ module _ (list : List ℕ) (p : Package) (sound : IsSound list p.files) (facts :
           ∙ ap (λ o. method_desc (first_of (virtual_method t.number) (exported_line (loaded p) o))) r.there
           ∙ t.listed import
 
-module _ (list : ListTree) (files : List (List ℕ)) (judged : Judged) (p : Package) (is : IsConverted list files judged
-    p) (facts : Facts p) where
+module _ (list : ListTree) (codes : List MethodCode) (p : Package) (is : IsOfFiles list codes p) (facts : Facts p) where
   -- What an export file lists of a static method or a constructor that a call names, by the imported class that
   -- declares it.
-  pub record Abroad (class : ClassTree) (op : ℕ) (id : MemberId) (n : Names_method list judged.codes p (is_of_files list files judged p is) class op id)
+  pub record Abroad (class : ClassTree) (op : ℕ) (id : MemberId) (n : Names_method list codes p is class op id)
       (import : (let d = n.owner in d.is_imported) ≡ true) : Type 0 where
     pub token : ℕ
     pub ref : (let d = n.owner in let h = facts.file d.name d n.named import in let e = h.entry in method_ref p
@@ -202,14 +200,14 @@ module _ (list : ListTree) (files : List (List ℕ)) (judged : Judged) (p : Pack
     pub listed : (let d = n.owner in let h = facts.file d.name d n.named import in let e = h.entry in IsListed e.methods
         token id)
 
-  pub abroad : (class : ClassTree) (op : ℕ) (id : MemberId) (n : Names_method list judged.codes p (is_of_files list files judged p is) class op id)
+  pub abroad : (class : ClassTree) (op : ℕ) (id : MemberId) (n : Names_method list codes p is class op id)
       → (import : (let d = n.owner in d.is_imported) ≡ true) → (let d = n.owner in is_interface d.flags) ≡ false
       → is_unbound (let a = n.at in let m = a.member in m.flags) (let a = n.at in let m = a.member in m.name) ≡ true
       → Abroad class op id n import
   abroad class op id n import plain bound =
       let d = n.owner in
       let m = of_class d.name id in
-      let sound = files_sound list files judged p is in
+      let sound = files_sound list codes p is.checked in
       let h = facts.file d.name d n.named import in
       let e = h.entry in
       let a = n.at in
@@ -250,7 +248,7 @@ module _ (list : ListTree) (files : List (List ℕ)) (judged : Judged) (p : Pack
       }
 
   -- a static method or a constructor by the imported class that declares it
-  pub abroad_named : (class : ClassTree) (op : ℕ) (id : MemberId) (n : Names_method list judged.codes p (is_of_files list files judged p is) class op id)
+  pub abroad_named : (class : ClassTree) (op : ℕ) (id : MemberId) (n : Names_method list codes p is class op id)
       → (let d = n.owner in d.is_imported) ≡ true → (let d = n.owner in is_interface d.flags) ≡ false
       → is_unbound (let a = n.at in let m = a.member in m.flags) (let a = n.at in let m = a.member in m.name) ≡ true
       → named_desc (written_pair p) (entry_of (names p) (keys.StaticMethod (of_class (let d = n.owner in d.name) id)))

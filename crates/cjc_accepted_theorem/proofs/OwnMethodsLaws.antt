@@ -4,6 +4,7 @@ use Rattle.std.proofs.Common.{◌≡◌, ⊎_elim, ℕ, zero, suc, ◌+◌, ◌=
 use Rattle.std.proofs.Common.{true, false, List, [], ◌∷◌, length, map}
 use Rattle.std.specs.Prelude.{◌&&◌, not, Some, option_map, slice_get}
 use Rattle.std.specs.List.{find}
+use Rattle.cjc_verified_proof.specs.Bytecode.declared.method_code.MethodCode.{MethodCode}
 use Rattle.cjc_verified_proof.specs.Bytes.AccessFlags.{is_interface}
 use Rattle.cjc_verified_proof.specs.Bytes.declared.fault.MemberId.{MemberId}
 use Rattle.cjc_verified_proof.proofs.BytesBools.{not_true}
@@ -26,14 +27,12 @@ use Rattle.cjc_verified_proof.specs.Components.Package.{LaidMethod, Package, wor
 use Rattle.cjc_verified_proof.specs.JvmSemantics.OnePackage.{of_class}
 use Rattle.cjc_verified_proof.specs.NCode.Lowering.Naming.{entry_of}
 use Rattle.cjc_verified_proof.specs.NCode.declared.narrow.PoolKey.TheVariants as keys
-use Rattle.cjc_theorem.proofs.ShapeProofFiles.{files_sound}
 use Rattle.cjc_theorem.proofs.ShapeProofOrder.{order_filed}
-use Rattle.cjc_theorem.specs.LowerJudge.declared.judged.Judged.{Judged}
-use Rattle.cjc_theorem.specs.ShapeProof.Written.Converted.{IsConverted}
+use Rattle.cjc_shape_proof.proofs.WrittenLaws.Checked.{files_sound}
+use Rattle.cjc_theorem.specs.ShapeProof.Written.Checked.{IsOfFiles}
 use Rattle.cjc_verified_proof.specs.Narrow.Rows.Resolved.{resolved_method}
 use Rattle.cjc_accepted_proof.specs.NarrowProof.Laws.Unbroken.{IsInsnOf}
 use Rattle.cjc_verified_proof.specs.Bytecode.declared.insn.JOp.TheVariants as jop
-use Rattle.cjc_theorem.proofs.ShapeProofOfFiles.{is_of_files}
 use Rattle.cjc_theorem.proofs.AlikeLaws.MetLaws.KeySources.{called}
 use Rattle.cjc_theorem.proofs.AlikeLaws.MetLaws.Own.{Names_method, own_method_named}
 use Rattle.cjc_verified_proof.proofs.TokenProofStarts.{ref_is_start}
@@ -148,8 +147,8 @@ module _ (p : Package) where
       let s = step p at ms x fs l in
       one_place (at + method_size s.0) s.1 fs f g s.4 h i e
 
-module _ (list : ListTree) (files : List (List ℕ)) (judged : Judged) (p : Package) (is : IsConverted list files judged
-    p) (has : HasMethods p) where
+module _ (list : ListTree) (codes : List MethodCode) (p : Package) (is : IsOfFiles list codes p)
+    (has : HasMethods p) where
   abbrev w : List Class
   w = world p
 
@@ -157,7 +156,7 @@ module _ (list : ListTree) (files : List (List ℕ)) (judged : Judged) (p : Pack
   q = written_pair p
 
   abbrev sound : IsSound list.name p.files
-  sound = files_sound list files judged p is
+  sound = files_sound list codes p is.checked
 
   -- a method of a class that is no interface stands in Method
   in_method : (d : Class) → Has d (class_order w) → is_interface d.flags ≡ false → (j : ℕ) (f : Found)
@@ -198,7 +197,7 @@ module _ (list : ListTree) (files : List (List ℕ)) (judged : Judged) (p : Pack
   number_is d f (of_interfaces i m is_m is_f same) = ap (λ (x : Found). x.class) is_f
 
   -- What Descriptor says of a method of the package that a call names, by where its header stands.
-  pub record Entered (by : ClassTree) (op : ℕ) (id : MemberId) (n : Names_method list judged.codes p (is_of_files list files judged p is) by op id)
+  pub record Entered (by : ClassTree) (op : ℕ) (id : MemberId) (n : Names_method list codes p is by op id)
       :
       Type 0 where
     pub one : Described
@@ -214,14 +213,14 @@ module _ (list : ListTree) (files : List (List ℕ)) (judged : Judged) (p : Pack
     pub listed : slice_get (methods_of_class w n.owner) number ≡ Some n.place
     pub tree : (let d = n.owner in let f = n.place in method_in w d f.member) ≡ (let a = n.at in a.member)
 
-  pub entered : (class : ClassTree) (op : ℕ) (id : MemberId) (n : Names_method list judged.codes p (is_of_files list files judged p is) class op id)
+  pub entered : (class : ClassTree) (op : ℕ) (id : MemberId) (n : Names_method list codes p is class op id)
       → (let d = n.owner in d.is_imported) ≡ false → (let d = n.owner in is_interface d.flags) ≡ false
       → Entered class op id n
   entered class op id n own plain =
       let d = n.owner in
       let at = n.at in
       let f = n.place in
-      let of = own_method_named list judged.codes p (is_of_files list files judged p is) class op id n own plain in
+      let of = own_method_named list codes p is class op id n own plain in
       let apart = own_names list.name p.files sound in
       let known = order_has list.name p.files sound d (has_named w d.name d n.named) own in
       let number_of = has-get d (class_order w) known in
@@ -268,7 +267,7 @@ module _ (list : ListTree) (files : List (List ℕ)) (judged : Judged) (p : Pack
       two true b e = (refl, e)
       two false b e = absurd cc
 
-  pub method_entry : (class : ClassTree) (op : ℕ) (id : MemberId) (n : Names_method list judged.codes p (is_of_files list files judged p is) class op id)
+  pub method_entry : (class : ClassTree) (op : ℕ) (id : MemberId) (n : Names_method list codes p is class op id)
       → (let d = n.owner in d.is_imported) ≡ false → (let d = n.owner in is_interface d.flags) ≡ false
       → named_desc q (entry_of (names p) (keys.StaticMethod (of_class (let d = n.owner in d.name) id))) ≡ Some id.desc
   method_entry class op id n own plain =
@@ -283,12 +282,12 @@ module _ (list : ListTree) (files : List (List ℕ)) (judged : Judged) (p : Pack
       ∙ ap (λ (v : Member). Some v.desc) member ∙ ap (λ v. Some v) at.has_desc
 
   -- what a call names that a class of the package declares
-  pub called_entry : (class : ClassTree) (op : ℕ) (id : MemberId) → IsInsnOf p.files judged.codes class (jop.Call op id)
+  pub called_entry : (class : ClassTree) (op : ℕ) (id : MemberId) → IsInsnOf p.files codes class (jop.Call op id)
       → (c : Class) → (let m = resolved_method w id in class_named w m.class ≡ Some c) → c.is_imported ≡ false
       → is_interface c.flags ≡ false
       → named_desc q (entry_of (names p) (keys.StaticMethod (resolved_method w id))) ≡ Some id.desc
   called_entry class op id of c known own plain =
-      let n = called list judged.codes p (is_of_files list files judged p is) class op id of in
+      let n = called list codes p is class op id of in
       let same : n.owner ≡ c = same_some (sym n.named ∙ sym (ap (λ (m : MemberId). class_named w m.class) n.resolved)
       ∙ known) in
       ap (λ m. named_desc q (entry_of (names p) (keys.StaticMethod m))) n.resolved

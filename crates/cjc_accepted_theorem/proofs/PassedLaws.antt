@@ -2,6 +2,7 @@
 -- and of the class that declares a member, by token.
 use Rattle.std.proofs.Common.{◌≡◌, ℕ, refl, sym, ap, ◌∙◌, Bool, true, false, List, [], ◌∷◌, ◌++◌}
 use Rattle.std.specs.Prelude.{◌||◌, Some, is_some, if◌then◌else◌}
+use Rattle.cjc_verified_proof.specs.Bytecode.declared.method_code.MethodCode.{MethodCode}
 use Rattle.cjc_verified_proof.specs.Bytes.AccessFlags.{acc_abstract, has, is_abstract, is_interface}
 use Rattle.cjc_verified_proof.proofs.WorldLines.{below_on}
 use Rattle.cjc_verified_proof.proofs.WorldCycles.{class_named-name}
@@ -21,7 +22,7 @@ use Rattle.cjc_world.specs.Upwards.{Below}
 use Rattle.cjc_world.specs.Lookup.{receiver}
 use Rattle.cjc_check_proof.specs.Types.Types.{array_of}
 use Rattle.cjc_check_proof.proofs.NarrowProofSpelt.{IsReadAsClass, class_read}
-use Rattle.cjc_narrow_proof.specs.Laws.Unbroken.{IsUnbroken}
+use Rattle.cjc_narrow_proof.specs.Laws.Unbroken.{KeepsNames}
 use Rattle.cjc_narrow_proof.proofs.LawsLaws.ClassNames.{each_name}
 use Rattle.cjc_accepted_proof.specs.Coded.{card_type, is_of}
 use Rattle.cjc_accepted_proof.specs.Frames.{PassesFor, SubtypesAgree}
@@ -29,34 +30,32 @@ use Rattle.cjc_accepted_proof.specs.Written.{written_pair}
 use Rattle.cjc_accepted_proof.proofs.CheckProofSupers.{entry_there}
 use Rattle.cjc_accepted_proof.proofs.TypesLaws.{types_pass}
 use Rattle.cjc_verify.specs.ClassTypes.{array_type, class_type}
-use Rattle.cjc_theorem.proofs.ShapeProofFiles.{are_spelt, files_sound, own_unbroken}
-use Rattle.cjc_theorem.proofs.ShapeProofWorlds.{own_solid}
 use Rattle.cjc_theorem.specs.LowerJudge.Rules.{settings_of}
-use Rattle.cjc_theorem.specs.LowerJudge.declared.judged.Judged.{Judged}
-use Rattle.cjc_theorem.specs.ShapeProof.Written.Converted.{IsConverted}
+use Rattle.cjc_shape_proof.proofs.WrittenLaws.Checked.{are_spelt, files_sound, own_names, own_solid}
+use Rattle.cjc_theorem.specs.ShapeProof.Written.Checked.{IsOfFiles}
 use Rattle.cjc_accepted_theorem.proofs.FieldsLaws.{class_there}
 use Rattle.cjc_accepted_theorem.proofs.TypedLaws.{shape_typed}
 
-module _ (list : ListTree) (files : List (List ℕ)) (judged : Judged) (p : Package) (is : IsConverted list files judged
-    p) where
+module _ (list : ListTree) (codes : List MethodCode) (p : Package) (is : IsOfFiles list codes p) where
   abbrev w : List Class
   w = world p
 
   abbrev q : Pair
   q = written_pair p
 
-  abbrev u : IsUnbroken list.name p.files judged.codes (settings_of list)
-  u = own_unbroken list files judged p is
+  abbrev u : KeepsNames list.name p.files codes (settings_of list)
+  u = own_names list codes p is.checked
 
   abbrev solid : IsSolid p.files
-  solid = own_solid list files judged p is
+  solid = own_solid list codes p is.checked
 
   abbrev sound : FilesAreSound list.name p.files
-  sound = files_sound list files judged p is
+  sound = files_sound list codes p is.checked
 
   -- the name of a class of some file is read as one
   pub name_read : (x : List ℕ) (c : Class) → class_named w x ≡ Some c → IsReadAsClass x
-  name_read x c e = class_read x (each_name p.files list.name u.listed u.world (are_spelt list files judged p is) x c e)
+  name_read x c e = class_read x (each_name p.files list.name u.listed u.world (are_spelt list codes p is.checked) x c
+      e)
 
   -- the card's type of it, and of the array of it
   pub class_typed : (x : List ℕ) (c : Class) → class_named w x ≡ Some c → card_type p x ≡ Some (class_type (class_ref p

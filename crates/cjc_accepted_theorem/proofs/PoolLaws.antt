@@ -1,6 +1,6 @@
 -- All entries of a converted package's pool name members of their keys' descriptors.
+use Rattle.cjc_verified_proof.specs.Bytecode.declared.method_code.MethodCode.{MethodCode}
 use Rattle.cjc_narrow_proof.specs.Laws.Unbroken.{KeepsNames}
-use Rattle.cjc_theorem.proofs.ShapeProofOfFiles.{is_of_files}
 use Rattle.std.proofs.Common.{◌≡◌, ℕ, refl, sym, ap, subst, ◌∙◌, Bool, true, false, not, List}
 use Rattle.std.specs.Prelude.{◌||◌, Some, option_and_then}
 use Rattle.cjc_verified_proof.specs.Bytes.AccessFlags.{is_interface, is_private, is_static}
@@ -22,12 +22,9 @@ use Rattle.cjc_verified_proof.specs.Narrow.Rows.Resolved.{method_found, resolved
 use Rattle.cjc_verified_proof.specs.Verify.Named.{named_desc}
 use Rattle.cjc_verified_proof.specs.World.Classes.{Class, Member, class_named}
 use Rattle.cjc_verified_proof.specs.NCode.ByLabel.{OnObject, OnSuper}
-use Rattle.cjc_theorem.proofs.ShapeProofFiles.{files_sound, own_names as kept_names}
-use Rattle.cjc_theorem.proofs.ShapeProofWorlds.{own_solid}
 use Rattle.cjc_theorem.specs.LowerJudge.Rules.{settings_of}
-use Rattle.cjc_theorem.specs.LowerJudge.declared.judged.Judged.{Judged}
-use Rattle.cjc_theorem.specs.ShapeProof.Written.Converted.{IsConverted}
-use Rattle.cjc_theorem.proofs.ShapeProofOfFiles.{is_of_files}
+use Rattle.cjc_shape_proof.proofs.WrittenLaws.Checked.{files_sound, own_names as kept_names, own_solid}
+use Rattle.cjc_theorem.specs.ShapeProof.Written.Checked.{IsOfFiles}
 use Rattle.cjc_theorem.proofs.AlikeLaws.MetLaws.KeySources as sources
 use Rattle.cjc_theorem.proofs.AlikeLaws.MetLaws.KeySources.{IsMet, called, key_met}
 use Rattle.cjc_theorem.proofs.AlikeLaws.MetLaws.Own.{Names_method, declared_by, field_own, own_cell_named}
@@ -52,34 +49,34 @@ use Rattle.cjc_accepted_theorem.proofs.FieldsLaws.{instance_named as named_insta
 use Rattle.cjc_accepted_theorem.proofs.NamedLaws.{abroad_named, super_named, virtual_named}
 use Rattle.cjc_accepted_theorem.proofs.OwnMethodsLaws.{method_entry}
 
-module _ (list : ListTree) (files : List (List ℕ)) (judged : Judged) (p : Package) (is : IsConverted list files judged
-    p) (has : HasMethods p) (told : HasCells (order_of p.image) (statics_of (let v = p.files in v.classes)))
+module _ (list : ListTree) (codes : List MethodCode) (p : Package) (is : IsOfFiles list codes p) (has : HasMethods p)
+    (told : HasCells (order_of p.image) (statics_of (let v = p.files in v.classes)))
     (fit : CellsFit p.image) (facts : Facts p) (tokens : KeepsTokens (world p)) (mean : TokensMean (world p))
     (mean_here : PackageTokensMean (world p)) (virtuals : (class : ClassTree) (id : MemberId)
-    → IsInsnOf p.files judged.codes class (jop.Call 0xB6 id) → IsNamed (world p) (OnObject (virtual_by (world p) id
+    → IsInsnOf p.files codes class (jop.Call 0xB6 id) → IsNamed (world p) (OnObject (virtual_by (world p) id
     (class_named (world p) id.class)))) (supers : (class : ClassTree) (id : MemberId)
-    → IsInsnOf p.files judged.codes class (jop.Call 0xB7 id) → is_interface class.flags ≡ false
+    → IsInsnOf p.files codes class (jop.Call 0xB7 id) → is_interface class.flags ≡ false
     → is_constructor id.name ≡ false → (hit : ResolvedMember) → method_found (world p) id ≡ Some hit
     → is_private hit.flags ≡ false → IsNamed (world p) (OnSuper (of_class class.name id))) where
   abbrev w : List Class
   w = world p
 
-  abbrev u : KeepsNames list.name p.files judged.codes (settings_of list)
-  u = kept_names list files judged p is
+  abbrev u : KeepsNames list.name p.files codes (settings_of list)
+  u = kept_names list codes p is.checked
 
   abbrev sound : IsSound list.name p.files
-  sound = files_sound list files judged p is
+  sound = files_sound list codes p is.checked
 
   -- an instance field by the class that declares it
   instance_named : (class : ClassTree) (put : Bool) (id : MemberId)
-      → IsInsnOf p.files judged.codes class (jop.Field put id) → NamesItsDesc p (keys.Field (resolved_field w id))
+      → IsInsnOf p.files codes class (jop.Field put id) → NamesItsDesc p (keys.Field (resolved_field w id))
   instance_named class put id of =
-      let n = field_named list.name p.files judged.codes (settings_of list) u (own_solid list files judged p is) class
+      let n = field_named list.name p.files codes (settings_of list) u (own_solid list codes p is.checked) class
       put id of in
       let d = n.owner in
       let at = n.at in
-      let own = field_own list judged.codes p (is_of_files list files judged p is) id n in
-      let t = declared_by list judged.codes p (is_of_files list files judged p is) d n.named own at.place at.member at.is_member in
+      let own = field_own list codes p is id n in
+      let t = declared_by list codes p is d n.named own at.place at.member at.is_member in
       let f = t.tree in
       let name : f.name ≡ id.name = sym (ap (λ (v : Member). v.name) t.same) ∙ at.has_name in
       let desc : f.desc ≡ id.desc = sym (ap (λ (v : Member). v.desc) t.same) ∙ at.has_desc in
@@ -95,7 +92,7 @@ module _ (list : ListTree) (files : List (List ℕ)) (judged : Judged) (p : Pack
       )
 
   -- a static method, a constructor or a private method by the class that declares it
-  fixed_named : (class : ClassTree) (op : ℕ) (id : MemberId) (n : Names_method list judged.codes p (is_of_files list files judged p is) class op id)
+  fixed_named : (class : ClassTree) (op : ℕ) (id : MemberId) (n : Names_method list codes p is class op id)
       → (let d = n.owner in is_interface d.flags) ≡ false
       → ((let d = n.owner in d.is_imported) ≡ true → is_unbound (let a = n.at in let m = a.member
       in m.flags) (let a = n.at in let m = a.member in m.name) ≡ true)
@@ -104,8 +101,8 @@ module _ (list : ListTree) (files : List (List ℕ)) (judged : Judged) (p : Pack
     where
       by : (b : Bool) → (let d = n.owner in d.is_imported) ≡ b
           → NamesItsDesc p (keys.StaticMethod (of_class (let d = n.owner in d.name) id))
-      by false own = (method_entry list files judged p is has class op id n own plain, tt)
-      by true import = (abroad_named list files judged p is facts class op id n import plain (bound import), tt)
+      by false own = (method_entry list codes p is has class op id n own plain, tt)
+      by true import = (abroad_named list codes p is facts class op id n import plain (bound import), tt)
 
   third : (a b c : Bool) → c ≡ true → (a || b || c) ≡ true
   third true b c e = refl
@@ -123,13 +120,13 @@ module _ (list : ListTree) (files : List (List ℕ)) (judged : Judged) (p : Pack
 
   -- what an invokespecial names
   special_named : (class : ClassTree) (id : MemberId) → is_interface class.flags ≡ false
-      → IsInsnOf p.files judged.codes class (jop.Call 0xB7 id)
+      → IsInsnOf p.files codes class (jop.Call 0xB7 id)
       → NamesItsDesc p (special_by class.name id (method_found w id))
-  special_named class id plain of = special_key list judged.codes p (is_of_files list files judged p is) (NamesItsDesc p) class.name class id n
-      (λ e. fixed_named class 0xB7 id n (fixed_in_class list judged.codes p (is_of_files list files judged p is) class
+  special_named class id plain of = special_key list codes p is (NamesItsDesc p) class.name class id n
+      (λ e. fixed_named class 0xB7 id n (fixed_in_class list codes p is class
       0xB7 id n
       (third (is_static flags) (is_private flags) (is_constructor id.name) e)) (λ import. bound e))
-      (λ e. fixed_named class 0xB7 id n (fixed_in_class list judged.codes p (is_of_files list files judged p is) class
+      (λ e. fixed_named class 0xB7 id n (fixed_in_class list codes p is class
       0xB7 id n
       (second (is_static flags) (is_private flags) (is_constructor id.name) e)) (λ import. not_abroad import e))
       (λ e f. (
@@ -138,8 +135,8 @@ module _ (list : ListTree) (files : List (List ℕ)) (judged : Judged) (p : Pack
         tt,
       ))
     where
-      n : Names_method list judged.codes p (is_of_files list files judged p is) class 0xB7 id
-      n = called list judged.codes p (is_of_files list files judged p is) class 0xB7 id of
+      n : Names_method list codes p is class 0xB7 id
+      n = called list codes p is class 0xB7 id of
 
       flags : ℕ
       flags = let a = n.at in let m = a.member in m.flags
@@ -149,16 +146,16 @@ module _ (list : ListTree) (files : List (List ℕ)) (judged : Judged) (p : Pack
           (ap is_constructor (let a = n.at in a.has_name) ∙ e)
 
       not_abroad : {A : Type 0} → (let d = n.owner in d.is_imported) ≡ true → is_private flags ≡ true → A
-      not_abroad import e = clash (let d = n.owner in d.is_imported) import (private_own list judged.codes p
-          (is_of_files list files judged p is) class 0xB7 id n e)
+      not_abroad import e = clash (let d = n.owner in d.is_imported) import (private_own list codes p
+          is class 0xB7 id n e)
 
-  pub one_named : (key : PoolKey) → IsMet p.files judged.codes key → NamesItsDesc p key
+  pub one_named : (key : PoolKey) → IsMet p.files codes key → NamesItsDesc p key
   one_named _ (sources.of_class c e) = tt
   one_named _ (sources.of_field class put id of) = instance_named class put id of
   one_named _ (sources.of_static class put id of none) =
-      let n = static_named list.name p.files judged.codes (settings_of list) u (own_solid list files judged p is) class
+      let n = static_named list.name p.files codes (settings_of list) u (own_solid list codes p is.checked) class
       put id of in
-      let cell = own_cell_named list judged.codes p (is_of_files list files judged p is) told fit id n none in
+      let cell = own_cell_named list codes p is told fit id n none in
       let apart = own_names list.name p.files sound in
       subst (λ (f : MemberId). NamesItsDesc p (keys.StaticField f)) (sym n.resolved) (
         cell_named p apart
@@ -172,13 +169,13 @@ module _ (list : ListTree) (files : List (List ℕ)) (judged : Judged) (p : Pack
   )
   one_named _ (sources.of_special j class id known plain of) = special_named class id plain of
   one_named _ (sources.of_call class id of) =
-      let n = called list judged.codes p (is_of_files list files judged p is) class 0xB8 id of in
+      let n = called list codes p is class 0xB8 id of in
       let flags = (let a = n.at in let m = a.member in m.flags) in
       let static : is_static flags ≡ true = (let g = n.fits in g.of_class) refl in
       subst (λ (m : MemberId). NamesItsDesc p (keys.StaticMethod m)) (sym n.resolved) (fixed_named class 0xB8 id n
-      (fixed_in_class list judged.codes p (is_of_files list files judged p is) class 0xB8 id n (ap (λ a. a ||
+      (fixed_in_class list codes p is class 0xB8 id n (ap (λ a. a ||
       is_private flags || is_constructor id.name)
       static)) (λ import. ap (λ a. a || is_constructor (let a = n.at in let m = a.member in m.name)) static))
 
-  pub all_named : CallsHaveOpcodes judged.codes → EntriesAreNamed p
-  all_named opcodes k key e = one_named key (key_met list judged.codes p (is_of_files list files judged p is) opcodes k key e)
+  pub all_named : CallsHaveOpcodes codes → EntriesAreNamed p
+  all_named opcodes k key e = one_named key (key_met list codes p is opcodes k key e)

@@ -3,11 +3,10 @@
 use Rattle.std.proofs.Common.{◌≡◌, ℕ, zero, suc, ◌+◌, ◌-◌, ◌≤◌, ◌<◌, ◌^◌, refl, sym, ap, subst, ◌∙◌, arith, Bool, true}
 use Rattle.std.proofs.Common.{false, List, [], ◌∷◌, ◌++◌, length, map}
 use Rattle.std.specs.Prelude.{Option, Some, None, flat_map, option_and_then, option_map, slice_get, if◌then◌else◌}
-use Rattle.std.specs.List.{AllZip}
 use Rattle.std.proofs.lemmas.List.{length-map}
 use Rattle.std.proofs.lemmas.List.Concat.{flat_map-cons}
+use Rattle.cjc_verified_proof.specs.Bytecode.declared.method_code.MethodCode.{MethodCode}
 use Rattle.cjc_verified_proof.specs.Bytes.AccessFlags.{is_interface, is_static}
-use Rattle.cjc_verified_proof.specs.Bytes.declared.fault.MemberId.{MemberId}
 use Rattle.cjc_verified_proof.proofs.BodyLaws.{Under, body_stands, under_in}
 use Rattle.cjc_verified_proof.proofs.BytesBools.{not_true}
 use Rattle.cjc_verified_proof.proofs.BytesGets.{get_mapped, mapped_at}
@@ -15,7 +14,6 @@ use Rattle.cjc_verified_proof.proofs.BytesPlain.{same_some}
 use Rattle.cjc_verified_proof.proofs.TokenProofClean.{own_name}
 use Rattle.cjc_verified_proof.proofs.TokenProofOrder.{kind-in, order_has}
 use Rattle.cjc_verified_proof.proofs.TokenProofWrittenCallsFlags.{static_same}
-use Rattle.cjc_verified_proof.specs.CapRead.declared.tree.ClassRef.{ClassRef}
 use Rattle.cjc_verified_proof.specs.CapRead.declared.tree.MethodDescriptor.{MethodDescriptor}
 use Rattle.cjc_verified_proof.specs.CheckRules.Codes.{whole_spots}
 use Rattle.cjc_verified_proof.specs.CheckRules.Described.{types_at}
@@ -25,9 +23,8 @@ use Rattle.cjc_verified_proof.specs.ClassFile.declared.tree.ClassTree.{ClassTree
 use Rattle.cjc_verified_proof.specs.ClassFile.declared.tree.MethodTree.{MethodTree}
 use Rattle.cjc_verified_proof.specs.Components.Descriptor.{class_descriptor, descriptor, method_descriptor}
 use Rattle.cjc_verified_proof.specs.Components.Descriptor.{method_flags, method_in}
-use Rattle.cjc_verified_proof.specs.Components.Methods.{placed_at}
-use Rattle.cjc_verified_proof.specs.Components.Names.{class_ref, names}
-use Rattle.cjc_verified_proof.specs.Components.Package.{LaidMethod, Package, pool, world}
+use Rattle.cjc_verified_proof.specs.Components.Names.{class_ref}
+use Rattle.cjc_verified_proof.specs.Components.Package.{LaidMethod, Package, world}
 use Rattle.cjc_verified_proof.specs.Components.Types.{all_descs, nibbles_of, type_offset}
 use Rattle.cjc_verified_proof.specs.JvmSemantics.Linked.{Method}
 use Rattle.cjc_verified_proof.specs.JvmSemantics.OnePackage.{method_at, method_by}
@@ -36,61 +33,42 @@ use Rattle.cjc_verified_proof.specs.List.Listed.{ListTree}
 use Rattle.cjc_verified_proof.specs.Narrow.Rows.Resolved.{argument_words, parameter_words}
 use Rattle.cjc_verified_proof.specs.TokenProof.Components.Methods.{HasMethods}
 use Rattle.cjc_verified_proof.specs.TokenProof.Components.OwnNames.{HaveOwnNames}
-use Rattle.cjc_verified_proof.specs.TokenProof.Tables.Loading.{components, part}
+use Rattle.cjc_verified_proof.specs.TokenProof.Tables.Loading.{components}
 use Rattle.cjc_verified_proof.specs.TokenProof.Tables.Sound.{IsSound}
-use Rattle.cjc_verified_proof.specs.Verify.Bodies.{Body, arguments, bodies, type_of_body}
-use Rattle.cjc_verified_proof.specs.Verify.Pairs.{is_card_type}
+use Rattle.cjc_verified_proof.specs.Verify.Bodies.{Body, bodies, type_of_body}
 use Rattle.cjc_verified_proof.specs.World.Classes.{Class, Member, class_named, declared, field_of_class}
 use Rattle.cjc_verified_proof.specs.World.Classes.{method_of_class}
 use Rattle.cjc_verified_proof.specs.World.Lookup.{member_at}
 use Rattle.cjc_verified_proof.specs.World.Order.{class_order, in_order, method_order, methods_in_turn, methods_of_class}
 use Rattle.cjc_verified_proof.specs.World.declared.found.Found.{Found}
-use Rattle.cjc_check_proof.specs.Classes.Premises.{TypesAreKnown}
-use Rattle.cjc_check_proof.specs.Code.Codes.{code_at, laid_code}
-use Rattle.cjc_card_semantics.specs.CapRead.MethodHeader.{MethodHeader}
-use Rattle.cjc_components.specs.Written.{IsWritten, code_by}
-use Rattle.cjc_ncode.specs.Lowering.Placed.{HandlersStand, first, offset_of}
-use Rattle.cjc_ncode.specs.declared.narrow.NMethod.{NMethod}
-use Rattle.cjc_narrow.specs.Rows.Selected.{near_fields}
-use Rattle.cjc_types.specs.Cells.{IsCellBelow}
 use Rattle.cjc_types.specs.Types.{parts, value_of}
 use Rattle.cjc_types.specs.declared.cell.Cell.{Cell}
 use Rattle.cjc_types.specs.declared.cell.Cell.TheVariants.{Refs}
-use Rattle.cjc_narrow_proof.specs.Laws.Unbroken.{IsUnbroken}
+use Rattle.cjc_narrow_proof.specs.Laws.Unbroken.{KeepsNames}
 use Rattle.cjc_narrow_proof.specs.Tables.Calls.{IsWordDesc}
+use Rattle.cjc_narrow_proof.specs.Tables.Names.{IsDesc}
+use Rattle.cjc_verified_proof.specs.Bytecode.ReadLaws.Members.{IsDescOf}
+use Rattle.cjc_verified_proof.specs.Bytes.Descriptor.{Parts}
+use Rattle.cjc_verified_proof.specs.Script.Sorts.{signature_of}
 use Rattle.cjc_narrow_proof.proofs.LawsLaws.Own.{class_by_name}
-use Rattle.cjc_narrow_proof.proofs.LawsLaws.OwnTypes.{own_word_desc}
-use Rattle.cjc_narrow_proof.proofs.LawsLaws.Room.{room_to_begin}
 use Rattle.cjc_narrow_proof.proofs.RunsLaws.Whole.{words_of_all}
 use Rattle.cjc_narrow_proof.proofs.TablesLaws.Called.{signature_is}
 use Rattle.cjc_accepted_proof.proofs.CheckProofOwnClasses.{own_classes}
 use Rattle.cjc_accepted_proof.proofs.CheckProofTypes.{type_begins}
 use Rattle.cjc_accepted_proof.proofs.DescribedLaws.{type_there, wanted}
-use Rattle.cjc_accepted_proof.proofs.EntryLaws.{arguments_below}
 use Rattle.cjc_accepted_proof.specs.Beside.{Beside, IsBeside}
-use Rattle.cjc_accepted_proof.specs.CardActs.CardTypes.{ValueType, type_at, type_by, types_in}
-use Rattle.cjc_accepted_proof.specs.Carded.{IsOnCard}
-use Rattle.cjc_accepted_proof.specs.Checked.{IsReadAs}
-use Rattle.cjc_accepted_proof.specs.Coded.{card_type, is_of}
-use Rattle.cjc_accepted_proof.specs.Frames.{IsTypeFor, MethodFits, SubtypesAgree, card_cells}
-use Rattle.cjc_accepted_proof.specs.Written.{written_pair}
-use Rattle.cjc_verify.specs.Frames.Acts.{given}
-use Rattle.cjc_verify.specs.ClassTypes.{class_type}
-use Rattle.cjc_theorem.proofs.ShapeProofDescs.{member_desc}
-use Rattle.cjc_theorem.proofs.ShapeProofFiles.{files_sound, is_checked, own_methods, own_unbroken, read_files}
-use Rattle.cjc_shape_proof.proofs.WrittenLaws.Coded.{plain_here}
+use Rattle.cjc_accepted_proof.specs.CardActs.CardTypes.{type_at, type_by, types_in}
+use Rattle.cjc_accepted_proof.specs.Carded.{HasCardTypes, IsOnCard}
+use Rattle.cjc_theorem.proofs.ShapeProofDescs.{member_desc, parts_are}
 use Rattle.cjc_theorem.proofs.ShapeProofOrder.{order_filed}
 use Rattle.cjc_theorem.proofs.VTableFiled.{Has, get-has, has-get}
 use Rattle.cjc_theorem.specs.LowerJudge.Rules.{settings_of}
-use Rattle.cjc_theorem.specs.LowerJudge.declared.judged.Judged.{Judged}
-use Rattle.cjc_theorem.specs.ShapeProof.Written.Converted.{IsConverted}
-use Rattle.cjc_accepted_theorem.specs.ReadFrom.{IsReadFrom}
-use Rattle.cjc_accepted_theorem.specs.Stands.{StandsBeside, bare, written}
-use Rattle.cjc_accepted_theorem.proofs.CodedLaws as coded
+use Rattle.cjc_shape_proof.proofs.WrittenLaws.Checked.{files_sound, own_names, read_files}
+use Rattle.cjc_theorem.specs.ShapeProof.Written.Checked.{IsOfFiles}
 use Rattle.cjc_accepted_theorem.proofs.HeadersLaws.{ClassesBegin, listed_desc, past_end, said_type}
 use Rattle.cjc_accepted_theorem.proofs.MethodsLaws.{IsMethodOf, method_from, of_file, of_interfaces}
-use Rattle.cjc_accepted_theorem.proofs.PassedLaws.{class_typed}
-use Rattle.cjc_accepted_theorem.proofs.TypedLaws.{typed_as, word_fits, word_on, word_signature, word_typed}
+use Rattle.cjc_accepted_theorem.proofs.TypedLaws.{AreOnCard, desc_typed, method_signature, sorts_in, sorts_on_card}
+use Rattle.cjc_accepted_theorem.proofs.TypedLaws.{typed_as}
 
 -- ---- methods in turn
 
@@ -167,7 +145,7 @@ method_class t x None = refl
 method_class t x (Some tree) = refl
 
 -- the words of a method's arguments are those that inference has
-words_are : (flags : ℕ) (class desc : List ℕ) → IsWordDesc desc → argument_words flags desc
+pub words_are : (flags : ℕ) (class desc : List ℕ) → IsWordDesc desc → argument_words flags desc
     ≡ length ((if is_static flags then [] else Refs (class ∷ []) ∷ []) ++ map value_of (let d = parts desc
     in d.params))
 words_are flags class desc word =
@@ -180,16 +158,16 @@ words_are flags class desc word =
     by true cells = omega arith
     by false cells = omega arith
 
-module _ (list : ListTree) (files : List (List ℕ)) (judged : Judged) (p : Package) (is : IsConverted list files judged
-    p) (apart : HaveOwnNames (class_order (world p))) (has : HasMethods p) where
+module _ (list : ListTree) (codes : List MethodCode) (p : Package) (is : IsOfFiles list codes p) (apart : HaveOwnNames
+    (class_order (world p))) (has : HasMethods p) where
   abbrev w : List Class
   w = world p
 
-  abbrev u : IsUnbroken list.name p.files judged.codes (settings_of list)
-  u = own_unbroken list files judged p is
+  abbrev u : KeepsNames list.name p.files codes (settings_of list)
+  u = own_names list codes p is.checked
 
   abbrev sound : IsSound list.name p.files
-  sound = files_sound list files judged p is
+  sound = files_sound list codes p is.checked
 
   -- the class of a method of Method, which is no interface
   record IsOf (g : Found) (o : Option Under) : Type 0 where
@@ -200,6 +178,8 @@ module _ (list : ListTree) (files : List (List ℕ)) (judged : Judged) (p : Pack
     file : ClassTree
     is_file : (let v = p.files in slice_get v.classes class.number ≡ Some file)
     is_declared : class ≡ declared class.number file
+    place : ℕ
+    is_found : slice_get (methods_of_class w class) place ≡ Some g
     member : IsMethodOf w class g
     under : o ≡ Some (as_under p class g)
 
@@ -223,6 +203,8 @@ module _ (list : ListTree) (files : List (List ℕ)) (judged : Judged) (p : Pack
         file = file.0;
         is_file = file.1;
         is_declared = file.2;
+        place = r.place;
+        is_found = r.is_found;
         member = method_from w d r.place m.member r.is_found;
         under = r.made;
       }
@@ -232,9 +214,15 @@ module _ (list : ListTree) (files : List (List ℕ)) (judged : Judged) (p : Pack
   place_of d g (of_file i m is_m is_g same plain) = (length d.fields + i, is_g)
   place_of d g (of_interfaces i m is_m is_g same) = (length d.fields + (length d.methods + i), is_g)
 
+  pub own_place : (k : ℕ) (m : LaidMethod) → slice_get p.methods k ≡ Some m → (let g = m.member in g.imported) ≡ false
+  own_place k m e =
+      let o = of_place k m e in
+      let at = place_of o.class m.member o.member in
+      ap (λ (h : Found). h.imported) at.1 ∙ ap (λ (c : Class). c.is_imported) o.is_declared
+
   -- ---- a method that is written is none of an interface
 
-  pub class_plain : (m : Beside) → IsBeside p m judged.codes → is_interface (let c = m.class in c.flags) ≡ false
+  pub class_plain : (m : Beside) → IsBeside p m codes → is_interface (let c = m.class in c.flags) ≡ false
   class_plain m b =
       let o = of_place b.number m.laid b.is_laid in
       let d = o.class in
@@ -264,27 +252,29 @@ module _ (list : ListTree) (files : List (List ℕ)) (judged : Judged) (p : Pack
 
   -- ---- a method as it is read
 
-  module _ (whole : whole_spots (components p) ≡ []) (known : TypesAreKnown p)
-      (begin : ClassesBegin list files judged p is) (subtypes : SubtypesAgree (card_type p) (is_of p) (world p)) where
-    -- the type at the offset of a descriptor of words
-    type_is : (desc : List ℕ) → IsWordDesc desc → Has desc (all_descs p) → type_at (descriptor p) (type_offset p desc)
-        ≡ typed_as p desc
-    type_is desc word there =
-        let q = written_pair p in
-        let on : IsOnCard desc = ap (is_card_type desc) (word_signature p desc word) ∙ word_on p desc word in
+  module _ (whole : whole_spots (components p) ≡ []) (begin : ClassesBegin list codes p is)
+      (card : HasCardTypes p) where
+    -- the type at the offset of a method's descriptor
+    type_is : (desc : List ℕ) → signature_of desc ≡ Some (sorts_in p desc) → IsOnCard desc → Has desc (all_descs p)
+        → type_at (descriptor p) (type_offset p desc) ≡ typed_as p desc
+    type_is desc sig on there =
         said_type (item_at (types_at (descriptor p)) (type_offset p desc)) (nibbles_of p desc) (type_there p desc
         (type_begins p desc there).0)
-        ∙ same_some (sym (ap (option_map (λ ns. type_by (types_in ns))) (wanted p desc on)) ∙ word_typed p desc word)
+        ∙ same_some (sym (ap (option_map (λ ns. type_by (types_in ns))) (wanted p desc on)) ∙ desc_typed p desc sig
+        (sorts_on_card p desc sig on))
 
-    -- what is known of the method of a class file, and of what Descriptor says of it
+    -- What is known of the method of a class file, and of what Descriptor says of it.
     pub record IsSaid (v : Body) (t : ClassTree) (x : MethodTree) : Type 0 where
-      class : Class
-      number : ℕ
-      named : class_named w t.name ≡ Some class
-      static : (let m = v.method in is_static m.flags) ≡ is_static x.flags
-      holder : v.holder ≡ class_ref p t.name
-      type : (word : IsWordDesc x.desc) → type_of_body (components p) v ≡ typed_as p x.desc
-      listed : Has x.desc (all_descs p)
+      pub class : Class
+      pub named : class_named w t.name ≡ Some class
+      pub static : (let m = v.method in is_static m.flags) ≡ is_static x.flags
+      pub holder : v.holder ≡ class_ref p t.name
+      pub is_desc : IsDesc x.desc
+      pub is_method : (let d = parts x.desc in d.is_method) ≡ true
+      pub short : length x.desc < 2 ^ 32
+      pub on_card : AreOnCard p x.desc
+      pub type : type_of_body (components p) v ≡ typed_as p x.desc
+      pub listed : Has x.desc (all_descs p)
 
     module _ (k : ℕ) (v : Body) (there : slice_get (bodies (components p)) k ≡ Some v) (m : LaidMethod)
         (is_laid : slice_get p.methods k ≡ Some m) (t : ClassTree) (x : MethodTree) (tree : CodeTree)
@@ -302,13 +292,36 @@ module _ (list : ListTree) (files : List (List ℕ)) (judged : Judged) (p : Pack
           same_some (sym s.listed ∙ ap (λ ds. slice_get (flat_map under_in ds) k) (own_classes p apart)
           ∙ ap (λ xs. slice_get xs k) (all_under p (in_order w false)) ∙ r.under)
 
+      -- its descriptor
+      parsed : IsDescOf true x.desc × (length x.desc < 2 ^ 32)
+      parsed =
+          let g = m.member in
+          let d = declared g.class t in
+          let named = (let v = u in class_by_name p.files list.name v.listed v.world g.class t is_class) in
+          let row : slice_get d.methods (g.member - length t.fields) ≡ Some (method_of_class x) =
+          get_mapped method_of_class t.methods (g.member - length t.fields) ∙ ap (option_map method_of_class) is_method
+          in
+          member_desc p.files (read_files list codes p is.checked) d named (g.member - length t.fields)
+          (method_of_class x) row
+
+      is_its : IsDesc x.desc
+      is_its = let r = parsed in let one = r.0 in parts_are x.desc one.0 r.1 one.1
+
+      of_method : (let d = parts x.desc in d.is_method) ≡ true
+      of_method =
+          let r = parsed in
+          let one = r.0 in
+          let same : one.0 ≡ parts x.desc = same_some (sym one.1 ∙ is_its) in
+          ap (λ (d : Parts). d.is_method) (sym same) ∙ one.2
+
       -- the method's file and place
       of_one : (d : Class) (g : Found) → class_named w d.name ≡ Some d → Has d (class_order w) → (f : ClassTree)
           → (let v = p.files in slice_get v.classes d.number ≡ Some f) → d ≡ declared d.number f → IsMethodOf w d g
           → (let v = p.files in slice_get v.classes g.class ≡ Some t)
           → slice_get t.methods (g.member - length t.fields) ≡ Some x
-          → record { holder = v.holder; method = v.method } ≡ as_under p d g → IsSaid v t x
-      of_one d g name order f is_f row (of_interfaces i y is_y is_g same) at_class at_method under =
+          → record { holder = v.holder; method = v.method } ≡ as_under p d g
+          → (let y = method_in w d g.member in IsOnCard y.desc) → IsSaid v t x
+      of_one d g name order f is_f row (of_interfaces i y is_y is_g same) at_class at_method under on =
           let file : f ≡ t = same_some (sym is_f ∙ sym (ap (λ (h : Found). let v = p.files in slice_get v.classes
           h.class)
           is_g) ∙ at_class) in
@@ -320,7 +333,7 @@ module _ (list : ListTree) (files : List (List ℕ)) (judged : Judged) (p : Pack
           let past : length t.methods ≤ g.member - length t.fields = omega (arith, fields, methods, at) in
           let none : None ≡ Some x = sym (past_end t.methods (g.member - length t.fields) past) ∙ at_method in
           absurd cc
-      of_one d g name order f is_f row (of_file i y is_y is_g same plain) at_class at_method under =
+      of_one d g name order f is_f row (of_file i y is_y is_g same plain) at_class at_method under on =
           let file : f ≡ t = same_some (sym is_f ∙ sym (ap (λ (h : Found). let v = p.files in slice_get v.classes
           h.class)
           is_g) ∙ at_class) in
@@ -336,22 +349,32 @@ module _ (list : ListTree) (files : List (List ℕ)) (judged : Judged) (p : Pack
           let said : method_in w d g.member ≡ method_of_class x = same ∙ sym r.2 ∙ ap method_of_class one in
           let holder_name : d.name ≡ t.name = ap (λ (c : Class). c.name) row ∙ ap (λ (c : ClassTree). c.name) file in
           let listed : Has x.desc (all_descs p) = subst (λ (z : Member). Has z.desc (all_descs p)) said (listed_desc
-          list files judged p is begin d order g (of_file i y is_y is_g same plain)) in
+          list codes p is begin d order g (of_file i y is_y is_g same plain)) in
+          let sig = method_signature p x.desc is_its of_method in
+          let on_card : IsOnCard x.desc = subst (λ (z : Member). IsOnCard z.desc) said on in
+          let parsed_here = parsed in
           record {
             class = d;
-            number = d.number;
             named = ap (class_named w) (sym holder_name) ∙ name;
             static = ap (λ (z : Under). let a = z.method in is_static a.flags) under
                 ∙ ap (λ (z : Member). is_static (method_flags z)) said ∙ static_same (method_of_class x);
             holder = ap (λ (z : Under). z.holder) under ∙ ap (class_ref p) holder_name;
-            type = λ word. ap (λ (z : Under). let a = z.method in type_at (descriptor p) a.type_offset) under
-                ∙ ap (λ (z : Member). type_at (descriptor p) (type_offset p z.desc)) said ∙ type_is x.desc word listed;
+            is_desc = is_its;
+            is_method = of_method;
+            short = parsed_here.1;
+            on_card = sorts_on_card p x.desc sig on_card;
+            type = ap (λ (z : Under). let a = z.method in type_at (descriptor p) a.type_offset) under
+                ∙ ap (λ (z : Member). type_at (descriptor p) (type_offset p z.desc)) said
+                ∙ type_is x.desc sig on_card listed;
             listed = listed;
           }
 
       pub said : IsSaid v t x
-      said = let r = o in of_one r.class m.member r.named r.listed r.file r.is_file r.is_declared r.member is_class
-          is_method under_is
+      said =
+          let r = o in
+          let place = has-get r.class (class_order w) r.listed in
+          of_one r.class m.member r.named r.listed r.file r.is_file r.is_declared r.member is_class is_method under_is
+          (card.methods place.0 r.class place.1 r.place m.member r.is_found)
 
       -- it is the one of the class file
       pub at_place : method_at p.files m.member ≡ Some (method_by t x (Some tree))
@@ -366,168 +389,3 @@ module _ (list : ListTree) (files : List (List ℕ)) (judged : Judged) (p : Pack
           ∙ ap (option_and_then (by_file.method_in g.member)) is_class
           ∙ ap (option_map (λ (y : MethodTree). method_by t y y.code)) is_method
           ∙ ap (λ c. Some (method_by t x c)) is_code
-
-      -- its descriptor has words
-      pub word : IsWordDesc x.desc
-      word =
-          let s = said in
-          let g = m.member in
-          let code = coded.code list files judged p is k m is_laid g.class (g.member - length t.fields) t x tree
-          is_class is_method is_code at_place in
-          let d = declared g.class t in
-          let named = (let v = u in class_by_name p.files list.name v.listed v.world g.class t is_class) in
-          let row : slice_get d.methods (g.member - length t.fields) ≡ Some (method_of_class x) =
-          get_mapped method_of_class t.methods (g.member - length t.fields) ∙ ap (option_map method_of_class) is_method
-          in
-          let parsed = member_desc p.files (read_files list files judged p is) d named (g.member - length t.fields)
-          (method_of_class x) row in
-          let one = parsed.0 in
-          own_word_desc list.name p.files judged.codes (settings_of list) u code t x tree
-          (coded.of_package list files judged p is k m is_laid g.class (g.member - length t.fields) t x tree is_class
-          is_method is_code at_place) (coded.listed list files judged p is k m is_laid g.class (g.member - length
-          t.fields) t x tree is_class is_method is_code at_place)
-          (plain_here list judged.codes p (is_checked list files judged p is) (own_methods list files judged p is) k m
-          is_laid t x tree at_place) one.0 parsed.1 one.1 one.2
-
-      short : length x.desc < 2 ^ 32
-      short =
-          let g = m.member in
-          let d = declared g.class t in
-          let named = (let v = u in class_by_name p.files list.name v.listed v.world g.class t is_class) in
-          let row : slice_get d.methods (g.member - length t.fields) ≡ Some (method_of_class x) =
-          get_mapped method_of_class t.methods (g.member - length t.fields) ∙ ap (option_map method_of_class) is_method
-          in
-          (member_desc p.files (read_files list files judged p is) d named (g.member - length t.fields)
-          (method_of_class x) row).1
-
-      abbrev id : MemberId
-      id = record { class = t.name; name = x.name; desc = x.desc }
-
-      -- its types are those of its descriptor
-      fits : MethodFits (card_type p) id (type_of_body (components p) v)
-      fits =
-          let s = said in
-          let place = has-get x.desc (all_descs p) s.listed in
-          subst (MethodFits (card_type p) id) (sym (s.type word)) (word_fits p id word (known place.0 x.desc place.1))
-
-      pub result_is : (let d = parts x.desc in let r = d.result in let y = type_of_body (components p) v in IsTypeFor
-          (card_type p) r.kind r.class y.result)
-      result_is = let f = fits in f.result
-
-      -- its arguments
-      arguments_are : AllZip IsCellBelow (map (given [] []) (arguments (components p) v)) (card_cells (card_type p) ((if
-          is_static x.flags then [] else Refs (t.name ∷ []) ∷ []) ++ map value_of (let d = parts x.desc in d.params)))
-      arguments_are =
-          let s = said in
-          let f = fits in
-          subst (λ (b : Bool). AllZip IsCellBelow (map (given [] []) (arguments (components p) v)) (card_cells
-          (card_type p) ((if b then [] else Refs (t.name ∷ []) ∷ []) ++ map value_of (let d = parts x.desc in
-          d.params)))) s.static (arguments_below (card_type p) (is_of p) w subtypes (let a = v.method in is_static
-          a.flags) t.name (class_type v.holder) (class_typed list files judged p is t.name s.class s.named
-          ∙ ap (λ (r : ClassRef). Some (class_type r)) (sym s.holder)) (let d = parts x.desc in d.params)
-          (let y = type_of_body (components p) v in y.params) f.params)
-
-      -- ---- beside the method of its class file
-
-      module _ (r : IsReadFrom p k v) (same : r.laid ≡ m) where
-        abbrev result : ValueType
-        result = let y = type_of_body (components p) v in y.result
-
-        abbrev place : ℕ
-        place = let g = m.member in g.member - length t.fields
-
-        abbrev here : Beside
-        here = coded.beside list files judged p is k m is_laid (let g = m.member in g.class) place t x tree is_class
-            is_method is_code at_place r.offset result
-
-        read : IsReadAs p here v
-        read =
-            let n = (let g = m.member in g.class) in
-            let stack = coded.stack_is list files judged p is k m is_laid n place t x tree is_class is_method is_code
-            at_place in
-            let nargs = coded.nargs_is list files judged p is k m is_laid n place t x tree is_class is_method is_code
-            at_place in
-            let locals = coded.locals_are list files judged p is k m is_laid n place t x tree is_class is_method is_code
-            at_place in
-            let code = coded.code list files judged p is k m is_laid n place t x tree is_class is_method is_code
-            at_place in
-            let of = coded.of_package list files judged p is k m is_laid n place t x tree is_class is_method is_code
-            at_place in
-            let room : length ((if is_static x.flags then [] else Refs (t.name ∷ []) ∷ []) ++ map value_of (let d =
-            parts x.desc in d.params)) ≤ tree.max_locals = room_to_begin p.files code t x tree of short in
-            let words = words_are x.flags t.name x.desc word in
-            let enough : (let c = m.code in c.nargs + c.max_locals) ≡ tree.max_locals = omega (
-              arith,
-              nargs,
-              locals,
-              room,
-              words,
-            ) in
-            record {
-              instructions = r.instructions ∙ ap (λ l. let c = code_at (names p) r.offset l in c.instructions) same;
-              max_stack = ap (λ (h : MethodHeader). h.max_stack) r.header ∙ ap (λ (l : LaidMethod). let c = l.code in
-                  c.max_stack) same ∙ stack;
-              locals = ap (λ (h : MethodHeader). h.nargs + h.max_locals) r.header ∙ ap (λ (l : LaidMethod). let c =
-                  l.code in c.nargs + c.max_locals) same ∙ enough;
-              result = refl;
-              arguments = arguments_are;
-              room = room;
-            }
-
-        pub stands : StandsBeside p judged.codes v
-        stands = written here (coded.is_beside list files judged p is k m is_laid (let g = m.member in g.class) place
-            t x tree is_class is_method is_code at_place r.offset result result_is) read (subst (λ l.
-            HandlersStand (names p) (placed_at r.offset l) (part p)) same r.handlers)
-
-    -- ---- any method
-
-    -- one whose code is empty has no instructions
-    empty : (k : ℕ) (v : Body) (r : IsReadFrom p k v) → (let l = r.laid in let c = l.code in c.insns) ≡ []
-        → v.instructions ≡ []
-    empty k v r e = r.instructions ∙ (let l = r.laid in let q = placed_at r.offset l in ap (λ insns. laid_code (names p)
-        (offset_of (names p) q) (first q) insns l.wide) e)
-
-    pub stands_beside : (k : ℕ) (v : Body) → slice_get (bodies (components p)) k ≡ Some v → IsReadFrom p k v
-        → StandsBeside p judged.codes v
-    stands_beside k v there r = by_class (let w = p.files in slice_get w.classes g.class) refl
-      where
-        g : Found
-        g = let l = r.laid in l.member
-
-        own : g.imported ≡ false
-        own =
-            let o = of_place k r.laid r.is_laid in
-            let at = place_of o.class g o.member in
-            ap (λ (h : Found). h.imported) at.1 ∙ ap (λ (c : Class). c.is_imported) o.is_declared
-
-        made : IsWritten p.files (near_fields (pool p)) (is.is_package.rows) r.laid
-        made = is.is_package.is_package.methods k r.laid r.is_laid
-
-        found : (o : Option ClassTree) → (let w = p.files in slice_get w.classes g.class) ≡ o → method_at p.files g
-            ≡ option_and_then (by_file.method_in g.member) o
-        found o e = ap (λ (b : Bool). if b then None else option_and_then (by_file.method_in g.member) (let w = p.files
-            in slice_get w.classes g.class)) own ∙ ap (option_and_then (by_file.method_in g.member)) e
-
-        without : (o : Option Method) → method_at p.files g ≡ o → (let c = code_by p.files (near_fields (pool p))
-            (is.is_package.rows) g o in c.insns) ≡ [] → StandsBeside p judged.codes v
-        without o e none = bare (empty k v r (ap (λ (c : NMethod). c.insns) (made.code ∙ ap (code_by p.files
-            (near_fields (pool p)) (is.is_package.rows) g) e) ∙ none))
-
-        by_code : (t : ClassTree) (x : MethodTree) → (let w = p.files in slice_get w.classes g.class) ≡ Some t
-            → slice_get t.methods (g.member - length t.fields) ≡ Some x → (o : Option CodeTree) → x.code ≡ o
-            → StandsBeside p judged.codes v
-        by_code t x e f None h = without (Some (method_by t x None)) (found (Some t) e ∙ ap (option_map
-            (λ (y : MethodTree). method_by t y y.code)) f ∙ ap (λ c. Some (method_by t x c)) h) refl
-        by_code t x e f (Some tree) h = stands k v there r.laid r.is_laid t x tree e f h r refl
-
-        by_method : (t : ClassTree) → (let w = p.files in slice_get w.classes g.class) ≡ Some t
-            → (o : Option MethodTree) → slice_get t.methods (g.member - length t.fields) ≡ o
-            → StandsBeside p judged.codes v
-        by_method t e None f = without None (found (Some t) e ∙ ap (option_map (λ (y : MethodTree). method_by t y
-            y.code)) f) refl
-        by_method t e (Some x) f = by_code t x e f x.code refl
-
-        by_class : (o : Option ClassTree) → (let w = p.files in slice_get w.classes g.class) ≡ o
-            → StandsBeside p judged.codes v
-        by_class None e = without None (found None e) refl
-        by_class (Some t) e = by_method t e (slice_get t.methods (g.member - length t.fields)) refl

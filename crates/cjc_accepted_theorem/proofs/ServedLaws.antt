@@ -1,21 +1,17 @@
 -- Instructions of a converted package's methods: what each names in the components is what the class file names.
 use Rattle.std.proofs.Common.{◌≡◌, ℕ, zero, suc, refl, sym, ap, subst, ◌∙◌, Bool, true, false, List, [], ◌∷◌, ℤ}
-use Rattle.std.specs.Prelude.{◌&&◌, ◌||◌, ◌==◌, not, Option, Some, None, is_some, option_and_then, option_map}
+use Rattle.std.specs.Prelude.{◌||◌, ◌==◌, not, Option, Some, None}
 use Rattle.std.specs.Prelude.{slice_get, if◌then◌else◌}
 use Rattle.cjc_verified_proof.specs.Bytecode.declared.insn.JInsn.{JInsn}
 use Rattle.cjc_verified_proof.specs.Bytecode.declared.insn.JOp.{JOp}
 use Rattle.cjc_verified_proof.specs.Bytecode.declared.insn.JOp.TheVariants as jop
 use Rattle.cjc_verified_proof.specs.Bytecode.declared.method_code.MethodCode.{MethodCode}
-use Rattle.cjc_verified_proof.specs.Bytes.AccessFlags.{is_abstract, is_interface, is_private}
+use Rattle.cjc_verified_proof.specs.Bytes.AccessFlags.{is_interface, is_private}
 use Rattle.cjc_verified_proof.specs.Bytes.declared.fault.MemberId.{MemberId}
 use Rattle.cjc_verified_proof.specs.ClassFile.declared.tree.ClassTree.{ClassTree}
 use Rattle.cjc_verified_proof.specs.Components.Names.{class_ref, names, virtual_token}
 use Rattle.cjc_verified_proof.specs.Components.Package.{Package, world}
-use Rattle.cjc_verified_proof.specs.JvmSemantics.OnePackage.{field_named, is_made, method_by, object_fields}
-use Rattle.cjc_verified_proof.specs.JvmSemantics.OnePackage.{constant_at, field_by, field_hit, is_constructor}
-use Rattle.cjc_verified_proof.specs.JvmSemantics.OnePackage.{method_hit}
-use Rattle.cjc_verified_proof.specs.JvmSemantics.OnePackage.{of_class}
-use Rattle.cjc_verified_proof.specs.JvmSemantics.Linked.{Static}
+use Rattle.cjc_verified_proof.specs.JvmSemantics.OnePackage.{is_constructor, of_class}
 use Rattle.cjc_verified_proof.specs.List.Listed.{ListTree}
 use Rattle.cjc_verified_proof.specs.NCode.Lowering.Naming.{Holds}
 use Rattle.cjc_verified_proof.specs.NCode.declared.narrow.NInsn.{NInsn}
@@ -26,10 +22,9 @@ use Rattle.cjc_verified_proof.specs.NCode.PoolOrder.{insn_keys}
 use Rattle.cjc_verified_proof.specs.Narrow.Rows.Resolved.{constant_named, method_found, resolution, resolved_field}
 use Rattle.cjc_verified_proof.specs.Narrow.Rows.Resolved.{resolved_method, special_by, virtual_by}
 use Rattle.cjc_narrow.specs.Pairs.Roles.{with_pairs}
-use Rattle.cjc_verified_proof.specs.Bytes.Spots.{after, bad_at, desc_of}
 use Rattle.cjc_verified_proof.specs.Script.Sorts.{Booleans, Bytes, Ints, OfClass, OfNumbers, OfReferences, Shape}
 use Rattle.cjc_verified_proof.specs.Script.Sorts.{Shorts}
-use Rattle.cjc_verified_proof.specs.Script.Sorts.{field_sort, shape_named}
+use Rattle.cjc_verified_proof.specs.Script.Sorts.{field_sort}
 use Rattle.cjc_verified_proof.specs.TokenProof.Components.Methods.{HasMethods}
 use Rattle.cjc_verified_proof.specs.TokenProof.Tables.Loading.{naming}
 use Rattle.cjc_verified_proof.specs.TokenProof.WrittenCalls.Calls.{ExportsKeep}
@@ -38,10 +33,8 @@ use Rattle.cjc_verified_proof.specs.Verify.Described.{described_spots}
 use Rattle.cjc_verified_proof.specs.Verify.Named.{holder_of}
 use Rattle.cjc_verified_proof.specs.Verify.Pairs.{Pair}
 use Rattle.cjc_verified_proof.specs.World.Classes.{Class, class_named}
-use Rattle.cjc_verified_proof.specs.World.Lookup.{find_field}
 use Rattle.cjc_verified_proof.specs.World.Order.{class_order, methods_of_class}
 use Rattle.cjc_verified_proof.specs.World.declared.found.Found.{Found}
-use Rattle.cjc_verified_proof.specs.WorldProof.Calls.Solid.{IsSolid}
 use Rattle.cjc_check_proof.specs.Classes.Premises.{TypesAreKnown}
 use Rattle.cjc_check_proof.specs.Types.declared.state.State.{State}
 use Rattle.cjc_check_proof.specs.Types.Flow.{Body}
@@ -51,20 +44,15 @@ use Rattle.cjc_ncode.specs.Written.{type_test, written, written_as, written_for}
 use Rattle.cjc_ncode.proofs.WrittenCases.{written_cases}
 use Rattle.cjc_ncode.specs.declared.narrow.PairRole.{PairRole}
 use Rattle.cjc_ncode.proofs.BytecodeDecoded.{decoded_instruction}
-use Rattle.cjc_token_proof.specs.Subset.Ints.{works_on_int}
+use Rattle.cjc_token_proof.specs.Subset.Ints.{code_works_on_int, works_on_int}
 use Rattle.cjc_token_proof.specs.Subset.Types.{is_unsupported_number, names_unsupported}
-use Rattle.cjc_narrow_proof.specs.Laws.Unbroken.{IsInsnOf, IsUnbroken}
-use Rattle.cjc_narrow_proof.specs.Runs.Names.{a_constant, a_static}
-use Rattle.cjc_narrow_proof.specs.Runs.Names as runs
-use Rattle.cjc_narrow_proof.specs.Runs.Tables.{Tables}
-use Rattle.cjc_narrow_proof.specs.Runs.Types.{IsThere}
-use Rattle.cjc_narrow_proof.specs.Runs.Types as there
+use Rattle.cjc_narrow_proof.specs.Laws.Unbroken.{IsInsnOf, KeepsNames}
 use Rattle.cjc_narrow_proof.specs.Tables.Arrays.{arraylength}
 use Rattle.cjc_narrow_proof.specs.Tables.Supported as plain
 use Rattle.cjc_narrow_proof.proofs.LawsLaws.Casts.{cast_there, test_there}
-use Rattle.cjc_narrow_proof.proofs.LawsLaws.Instructions.{array_of_class, kept_names, new_fields, op_fit, op_there}
+use Rattle.cjc_narrow_proof.proofs.LawsLaws.Instructions.{op_fit}
 use Rattle.cjc_narrow_proof.proofs.SelectedLaws.Cuts.{decoded as is_decoded}
-use Rattle.cjc_narrow_proof.proofs.SelectedLaws.IntFree.{op_free}
+use Rattle.cjc_narrow_proof.proofs.SelectedLaws.IntFree.{insn_free}
 use Rattle.cjc_verified_proof.specs.Bytecode.ReadLaws.Instructions.{IsInstruction, has_opcode}
 use Rattle.cjc_shape_proof.proofs.FindsLaws.Descs.{read_of}
 use Rattle.cjc_shape_proof.proofs.WrittenLaws.Coded.{plain_here}
@@ -72,32 +60,29 @@ use Rattle.cjc_accepted_proof.specs.Beside.{Beside, IsBeside, body_by_name, labe
 use Rattle.cjc_accepted_proof.specs.Carded.{EntriesAreNamed}
 use Rattle.cjc_accepted_proof.specs.Coded.{card_type, is_of}
 use Rattle.cjc_accepted_proof.specs.Frames.{MethodFits, PassesFor, SubtypesAgree}
-use Rattle.cjc_accepted_proof.specs.Served.{CallServed, IsServed, TypeServed}
+use Rattle.cjc_accepted_proof.specs.Served.{CallServed, IsServed}
 use Rattle.cjc_accepted_proof.specs.Served as serves
 use Rattle.cjc_accepted_proof.specs.Written.{written_pair}
-use Rattle.cjc_theorem.proofs.ShapeProofOfFiles.{is_of_files}
 use Rattle.cjc_theorem.proofs.AlikeLaws.MetLaws.KeySources.{Calls_method, IsMet, called}
 use Rattle.cjc_theorem.proofs.AlikeLaws.NamedLaws.Means.{insn_held}
-use Rattle.cjc_theorem.proofs.ShapeProofFiles.{are_spelt, is_checked, own_methods, own_unbroken, read_files}
-use Rattle.cjc_theorem.proofs.ShapeProofWorlds.{own_solid}
 use Rattle.cjc_theorem.proofs.WholeRuns.Operations.{arith_plain, if_plain, load_is, narrow_plain, one_of, return_is}
 use Rattle.cjc_theorem.proofs.WholeRuns.Operations.{stack_plain, store_is}
-use Rattle.cjc_theorem.proofs.WholeRuns.Statics.{static_is}
 use Rattle.cjc_theorem.specs.LowerJudge.Rules.{settings_of}
-use Rattle.cjc_theorem.specs.LowerJudge.declared.judged.Judged.{Judged}
-use Rattle.cjc_theorem.specs.ShapeProof.Written.Converted.{IsConverted}
+use Rattle.cjc_shape_proof.proofs.WrittenLaws.Checked.{are_spelt, own_names, read_files}
+use Rattle.cjc_theorem.specs.ShapeProof.Written.Checked.{IsOfFiles}
 use Rattle.cjc_accepted_theorem.specs.Begins.{Begins}
 use Rattle.cjc_accepted_theorem.specs.ExportsHaveCode.{ExportsHaveCode}
 use Rattle.cjc_accepted_theorem.specs.NamesDesc.{NamesItsDesc}
 use Rattle.cjc_accepted_theorem.proofs.FixedLaws as fixed
 use Rattle.cjc_accepted_theorem.proofs.InterfaceLaws.{interface_at}
 use Rattle.cjc_accepted_theorem.proofs.MembersLaws.{field_at, static_at}
-use Rattle.cjc_accepted_theorem.proofs.PassedLaws.{array_typed, class_typed, made_class}
 use Rattle.cjc_accepted_theorem.proofs.SentLaws.{sent_at, word_of}
-use Rattle.cjc_accepted_theorem.proofs.TypedLaws.{flat_there, shape_typed}
+use Rattle.cjc_accepted_theorem.proofs.TypedLaws.{flat_there}
+use Rattle.cjc_accepted_theorem.proofs.TypesLaws.{array_entry, constant_read, new_entry, numbers_typed, special_key}
+use Rattle.cjc_accepted_theorem.proofs.TypesLaws.{type_served}
 
 -- a reached instruction stands among those that are
-reached_there : {A : Type 0} (insns : List JInsn) (rows : List (Option A)) (at : ℕ) (i : JInsn) (x : A)
+pub reached_there : {A : Type 0} (insns : List JInsn) (rows : List (Option A)) (at : ℕ) (i : JInsn) (x : A)
     → slice_get insns at ≡ Some i → slice_get rows at ≡ Some (Some x) → (k : ℕ) × (slice_get (reached insns rows) k
     ≡ Some i)
 reached_there [] rows at i x e f = absurd cc
@@ -110,10 +95,10 @@ reached_there (j ∷ insns) (Some y ∷ rows) (suc at) i x e f = let r = reached
   r.1,
 )
 
-module _ (list : ListTree) (files : List (List ℕ)) (judged : Judged) (p : Package) (is : IsConverted list files judged
-    p) (subtypes : SubtypesAgree (card_type p) (is_of p) (world p)) (described : described_spots (written_pair p) ≡ [])
+module _ (list : ListTree) (codes : List MethodCode) (p : Package) (is : IsOfFiles list codes p)
+    (subtypes : SubtypesAgree (card_type p) (is_of p) (world p)) (described : described_spots (written_pair p) ≡ [])
     (named : EntriesAreNamed p) (known : TypesAreKnown p)
-    (met : (key : PoolKey) → IsMet p.files judged.codes key → NamesItsDesc p key) (has : HasMethods p) (facts : Facts p)
+    (met : (key : PoolKey) → IsMet p.files codes key → NamesItsDesc p key) (has : HasMethods p) (facts : Facts p)
     (begin : (k : ℕ) (d : Class) → slice_get (class_order (world p)) k ≡ Some d → is_interface d.flags ≡ false
     → (j : ℕ) (f : Found) → slice_get (methods_of_class (world p) d) j ≡ Some f → Begins p d f)
     (coded : ExportsHaveCode p) (keep : ExportsKeep p) where
@@ -123,16 +108,10 @@ module _ (list : ListTree) (files : List (List ℕ)) (judged : Judged) (p : Pack
   abbrev q : Pair
   q = written_pair p
 
-  abbrev codes : List MethodCode
-  codes = judged.codes
+  abbrev u : KeepsNames list.name p.files codes (settings_of list)
+  u = own_names list codes p is.checked
 
-  abbrev u : IsUnbroken list.name p.files judged.codes (settings_of list)
-  u = own_unbroken list files judged p is
-
-  abbrev solid : IsSolid p.files
-  solid = own_solid list files judged p is
-
-  module _ (m : Beside) (b : IsBeside p m judged.codes) where
+  module _ (m : Beside) (b : IsBeside p m codes) where
     abbrev names_of : Resolution
     names_of = names_in p m
 
@@ -157,54 +136,25 @@ module _ (list : ListTree) (files : List (List ℕ)) (judged : Judged) (p : Pack
 
     -- ---- static fields
 
-    no_tables : Tables
-    no_tables = record { types = λ x. []; ranges = λ x. [] }
-
-    -- a constant is found as one
-    constant_found : (id : MemberId) (z : ℤ) → constant_named p.files w id ≡ Some z → (f : MemberId)
-        → field_named p.files w id ≡ Some (Static f) → ⊥
-    constant_found id z e f g = by (find_field w id.class id.name id.desc) e g
-      where
-        at : (o : Option ℤ) (x : Found) → constant_at p.files x ≡ o → o ≡ Some z
-            → option_map (field_by (constant_at p.files x) id) (field_hit w x) ≡ Some (Static f) → ⊥
-        at None x h i k = absurd cc
-        at (Some y) x h i k = hit (field_hit w x) (sym (ap (λ o. option_map (field_by o id) (field_hit w x)) h) ∙ k)
-          where
-            hit : (o : Option _) → option_map (field_by (Some y) id) o ≡ Some (Static f) → ⊥
-            hit None k = cc
-            hit (Some v) k = cc
-
-        by : (o : Option Found) → option_and_then (constant_at p.files) o ≡ Some z → option_and_then (λ x. option_map
-            (field_by (constant_at p.files x) id) (field_hit w x)) o ≡ Some (Static f) → ⊥
-        by None h k = cc
-        by (Some x) h k = at (constant_at p.files x) x refl h k
-
-    static_named : (class : ClassTree) (put : Bool) (id : MemberId) → IsInsnOf p.files codes class (jop.Static put id)
-        → runs.IsNamed p.files p.image [] no_tables (method_by m.class m.method (Some m.tree)) [] (jop.Static put id)
-    static_named class put id of = static_is list.name p.files codes (settings_of list) u (read_files list files judged
-        p is) solid p.image [] no_tables (method_by m.class m.method (Some m.tree)) [] class put id of
-
-    constant_served : (put : Bool) (id : MemberId) (z : ℤ) → constant_named p.files w id ≡ Some z
-        → runs.IsNamed p.files p.image [] no_tables (method_by m.class m.method (Some m.tree)) [] (jop.Static put id)
+    constant_served : (class : ClassTree) (put : Bool) (id : MemberId)
+        → IsInsnOf p.files codes class (jop.Static put id) → (z : ℤ) → constant_named p.files w id ≡ Some z
         → (let r = names_in p m in r.constant id) ≡ Some z → Served (jop.Static put id)
-    constant_served put id z e (runs.names_nothing none) f = elim none [ ]
-    constant_served put id z e (runs.is_on_array none) f = elim none [ ]
-    constant_served put id z e (a_static g static) f = absurd (constant_found id z e g static.found)
-    constant_served false id z e (a_constant y number held found) f = serves.a_constant z f number
+    constant_served class put id of z e f = (let s = constant_read list codes p is class put id of z e
+        in subst (λ b. Served (jop.Static b id)) (sym s.0) (serves.a_constant z f s.1))
 
     static_served : (class : ClassTree) (put : Bool) (id : MemberId)
-        → IsInsnOf p.files codes class (jop.Static put id)
+        → IsInsnOf p.files codes class (jop.Static put id) → works_on_int (jop.Static put id) ≡ false
         → Holding (jop.Static put id)
         → Served (jop.Static put id)
     unfolding with_pairs resolution
-    static_served class put id of holds_for = by (constant_named p.files w id) refl
+    static_served class put id of free holds_for = by (constant_named p.files w id) refl
       where
         by : (o : Option ℤ) → constant_named p.files w id ≡ o → Served (jop.Static put id)
-        by (Some z) e = constant_served put id z e (static_named class put id of) e
+        by (Some z) e = constant_served class put id of z e e
         by None e =
             let key = keys.StaticField (resolved_field w id) in
             let holds = holds_for _ (ap (static_by (names_in p m) put id) e) key refl in
-            let s = static_at list files judged p is subtypes described named known met class put id of e holds in
+            let s = static_at list codes p is subtypes described named known met class put id of free e holds in
             serves.a_static put (record {
               is_no_constant = e;
               field = s.field;
@@ -216,10 +166,11 @@ module _ (list : ListTree) (files : List (List ℕ)) (judged : Judged) (p : Pack
     -- ---- instance fields and virtual methods
 
     field_served : (class : ClassTree) (put : Bool) (id : MemberId) → IsInsnOf p.files codes class (jop.Field put id)
-        → Holds (naming p) (keys.Field (resolved_field w id)) → Served (jop.Field put id)
+        → works_on_int (jop.Field put id) ≡ false → Holds (naming p) (keys.Field (resolved_field w id))
+        → Served (jop.Field put id)
     unfolding with_pairs resolution
-    field_served class put id of holds =
-        let s = field_at list files judged p is subtypes described named known met class put id of holds in
+    field_served class put id of free holds =
+        let s = field_at list codes p is subtypes described named known met class put id of free holds in
         serves.a_field put (record {
           class = s.class;
           token = s.token;
@@ -229,13 +180,13 @@ module _ (list : ListTree) (files : List (List ℕ)) (judged : Judged) (p : Pack
         })
 
     sent_served : (class : ClassTree) (id : MemberId) → IsInsnOf p.files codes class (jop.Call 0xB6 id)
-        → Holding (jop.Call 0xB6 id)
+        → works_on_int (jop.Call 0xB6 id) ≡ false → Holding (jop.Call 0xB6 id)
         → CallServed (card_type p) (is_of p) w q (names p) (names_in p m) (body_by_name m) 0xB6 id
     unfolding with_pairs resolution
-    sent_served class id of holds_for =
+    sent_served class id of free holds_for =
         let v = virtual_by w id (class_named w id.class) in
         let holds = holds_for _ refl (keys.Virtual v) refl in
-        let s = sent_at list files judged p is subtypes described named known met class id of holds in
+        let s = sent_at list codes p is subtypes described named known met class id of free holds in
         serves.sent (class_ref p v.class) (virtual_token p v) s.entry s.fits s.passes
 
     -- ---- classes and types
@@ -244,65 +195,22 @@ module _ (list : ListTree) (files : List (List ℕ)) (judged : Judged) (p : Pack
         → Holding (jop.New name)
         → Served (jop.New name)
     new_served class name of holds_for =
-        let ok = op_there list.name p.files codes (settings_of list) (kept_names u) class (jop.New name) of in
-        let holds = holds_for _ refl (keys.Class name) refl in
-        by (class_named w name) refl (new_fields p.files class name ok.0 ok.2) holds
-      where
-        two : (a b : Bool) → (not a && not b) ≡ true → (a ≡ false) × (b ≡ false)
-        two true b e = absurd cc
-        two false true e = absurd cc
-        two false false e = (refl, refl)
-
-        made : (c : Class) (v : Bool) → is_made c ≡ v → (if v then Some (object_fields w name) else None)
-            ≡ Some (object_fields w name) → is_made c ≡ true
-        made c true e f = e
-        made c false e f = absurd cc
-
-        by : (o : Option Class) → class_named w name ≡ o → option_and_then (λ c. if is_made c
-            then Some (object_fields w name) else None) o ≡ Some (object_fields w name) → Holds (naming p) (keys.Class
-            name) → Served (jop.New name)
-        by None e f holds = absurd cc
-        by (Some c) e f holds =
-            let t = two (is_interface c.flags) (is_abstract c.flags) (made c (is_made c) refl f) in
-            serves.an_object (class_ref p name) holds.there (class_typed list files judged p is name c e)
-            (made_class list files judged p is name c e t.0 t.1)
+        let e = new_entry list codes p is class name of (holds_for _ refl (keys.Class name) refl) in
+        serves.an_object (class_ref p name) e.0 e.1 e.2
 
     array_served : (class : ClassTree) (name : List ℕ) → IsInsnOf p.files codes class (jop.ANewArray name)
         → Holding (jop.ANewArray name)
         → Served (jop.ANewArray name)
     array_served class name of holds_for =
-        let ok = op_there list.name p.files codes (settings_of list) (kept_names u) class (jop.ANewArray name) of in
-        let fit = op_fit list.name p.files codes (settings_of list) (kept_names u) class (jop.ANewArray name) of in
-        let c = array_of_class w name ok.0 fit.0 in
-        let holds = holds_for _ refl (keys.Class name) refl in
-        serves.an_array (class_ref p name) holds.there (array_typed list files judged p is name c.0 c.1)
-
-    -- the type that a test names, whose class or whose elements' class the pool holds
-    type_served : (name : List ℕ) (kind : Shape (List ℕ)) → shape_named name ≡ Some kind → IsThere w kind
-        → ((number : ℕ) (c : List ℕ) → type_test 0x94 (Some kind) ≡ insns.TypeTest 0x94 number (Some c) ∷ []
-        → Holds (naming p) (keys.Class c)) → TypeServed (card_type p) (is_of p) w q (names p) (names_in p m) name
-    type_served name _ e (there.of_class {class = x} c known) holds = (let h = holds 0 x refl in serves.a_class x
-        (class_ref p x) e h.there (shape_typed p name (OfClass x) e (ap is_some known)))
-    type_served name _ e (there.of_numbers {element = element}) holds = serves.numbers element e (shape_typed p name
-        (OfNumbers element) e refl)
-    type_served name _ e (there.of_references {class = x} c known) holds = (let h = holds 14 x refl in serves.references
-        x (class_ref p x) e h.there (shape_typed p name (OfReferences x) e (ap is_some known)))
-
-    numbers_typed : (card_type p (91 ∷ 90 ∷ []) ≡ Some (10 ∷ [])) × (card_type p (91 ∷ 66 ∷ []) ≡ Some (11 ∷ []))
-        × (card_type p (91 ∷ 83 ∷ []) ≡ Some (12 ∷ []))
-    unfolding desc_of bad_at after
-    numbers_typed = (
-      shape_typed p (91 ∷ 90 ∷ []) (OfNumbers Booleans) refl refl,
-      shape_typed p (91 ∷ 66 ∷ []) (OfNumbers Bytes) refl refl,
-      shape_typed p (91 ∷ 83 ∷ []) (OfNumbers Shorts) refl refl,
-    )
+        let e = array_entry list codes p is class name of (holds_for _ refl (keys.Class name) refl) in
+        serves.an_array (class_ref p name) e.0 e.1
 
     -- 301, and what does not work on int
     numbers_served : (n : ℕ) → IsInstruction (jop.NewArray n) → is_unsupported_number n ≡ false → (n == 10) ≡ false
         → Served (jop.NewArray n)
     numbers_served n h = one_of (λ k. is_unsupported_number k ≡ false → (k == 10) ≡ false → Served (jop.NewArray k)) n
         (4 ∷ 5 ∷ 6 ∷ 7 ∷ 8 ∷ 9 ∷ 10 ∷ 11 ∷ []) (
-          (λ f g. serves.an_array_of_numbers (10 ∷ []) refl numbers_typed.0),
+          (λ f g. serves.an_array_of_numbers (10 ∷ []) refl (numbers_typed p).0),
           (
             (λ f g. absurd cc),
             (
@@ -310,9 +218,9 @@ module _ (list : ListTree) (files : List (List ℕ)) (judged : Judged) (p : Pack
               (
                 (λ f g. absurd cc),
                 (
-                  (λ f g. serves.an_array_of_numbers (11 ∷ []) refl numbers_typed.1),
+                  (λ f g. serves.an_array_of_numbers (11 ∷ []) refl (numbers_typed p).1),
                   (
-                    (λ f g. serves.an_array_of_numbers (12 ∷ []) refl numbers_typed.2),
+                    (λ f g. serves.an_array_of_numbers (12 ∷ []) refl (numbers_typed p).2),
                     ((λ f g. absurd cc), ((λ f g. absurd cc), tt)),
                   ),
                 ),
@@ -325,43 +233,34 @@ module _ (list : ListTree) (files : List (List ℕ)) (judged : Judged) (p : Pack
     -- ---- static methods, constructors and private methods
 
     static_call_served : (id : MemberId) → IsInsnOf p.files codes m.class (jop.Call 0xB8 id)
-        → Holding (jop.Call 0xB8 id)
+        → works_on_int (jop.Call 0xB8 id) ≡ false → Holding (jop.Call 0xB8 id)
         → CallServed (card_type p) (is_of p) w q (names p) (names_in p m) (body_by_name m) 0xB8 id
     unfolding with_pairs resolution
-    static_call_served id of holds_for =
+    static_call_served id of free holds_for =
         let holds = holds_for _ refl (keys.StaticMethod (resolved_method w id)) refl in
-        let s = fixed.static_at list files judged p is subtypes described named known met has facts begin coded m.class
-        id
-        of holds in
+        let s = fixed.static_at list codes p is subtypes described named known met has facts begin coded m.class id of
+        free holds in
         serves.static s.method s.entry s.right s.fits
-
-    -- what a key of an invokespecial is
-    special_key : (id : MemberId) (n : Calls_method list judged.codes p (is_of_files list files judged p is) m.class 0xB7 id)
-        → special_by (let c = m.class in c.name) id (method_found w id) ≡ (if is_constructor id.name || is_private (let
-        a
-        = n.at in let x = a.member in x.flags) then keys.StaticMethod (of_class (let d = n.owner in d.name) id)
-        else keys.Super (of_class (let c = m.class in c.name) id))
-    special_key id n = ap (special_by (let c = m.class in c.name) id) (ap (option_and_then (method_hit w)) n.found
-        ∙ n.hit)
 
     -- what an invokespecial calls above the class that holds the code
     abbrev IsAbove : MemberId → Type 0
-    IsAbove id = (n : Calls_method list judged.codes p (is_of_files list files judged p is) m.class 0xB7 id) × ((is_constructor id.name || is_private (let
+    IsAbove id = (n : Calls_method list codes p is m.class 0xB7 id) × ((is_constructor id.name || is_private (let
         a
         = n.at in let x = a.member in x.flags)) ≡ false)
 
-    special_served : ((id : MemberId) → IsInsnOf p.files codes m.class (jop.Call 0xB7 id) → IsAbove id
+    special_served : ((id : MemberId) → IsInsnOf p.files codes m.class (jop.Call 0xB7 id) → works_on_int (jop.Call 0xB7
+        id) ≡ false → IsAbove id
         → Holds (naming p) (keys.Super (of_class (let c = m.class in c.name) id))
         → (let r = names_in p m in r.special id) ≡ keys.Super (of_class (let c = m.class in c.name) id)
         → CallServed (card_type p) (is_of p) w q (names p) (names_in p m) (body_by_name m) 0xB7 id) → (id : MemberId)
-        → IsInsnOf p.files codes m.class (jop.Call 0xB7 id)
+        → IsInsnOf p.files codes m.class (jop.Call 0xB7 id) → works_on_int (jop.Call 0xB7 id) ≡ false
         → Holding (jop.Call 0xB7 id)
         → CallServed (card_type p) (is_of p) w q (names p) (names_in p m) (body_by_name m) 0xB7 id
     unfolding with_pairs resolution
-    special_served supers id of holds_for = by (is_constructor id.name || is_private flags) refl
+    special_served supers id of free holds_for = by (is_constructor id.name || is_private flags) refl
       where
-        n : Calls_method list judged.codes p (is_of_files list files judged p is) m.class 0xB7 id
-        n = called list judged.codes p (is_of_files list files judged p is) m.class 0xB7 id of
+        n : Calls_method list codes p is m.class 0xB7 id
+        n = called list codes p is m.class 0xB7 id of
 
         flags : ℕ
         flags = let a = n.at in let x = a.member in x.flags
@@ -372,108 +271,105 @@ module _ (list : ListTree) (files : List (List ℕ)) (judged : Judged) (p : Pack
         key : (b : Bool) → (is_constructor id.name || is_private flags) ≡ b → special_by (let c = m.class in c.name) id
             (method_found w id) ≡ (if b then keys.StaticMethod (of_class (let d = n.owner in d.name) id) else keys.Super
             (of_class (let c = m.class in c.name) id))
-        key b e = special_key id n ∙ ap (λ v. if v then keys.StaticMethod (of_class (let d = n.owner in d.name) id)
-            else keys.Super (of_class (let c = m.class in c.name) id)) e
+        key b e = special_key list codes p is m.class id n ∙ ap (λ v. if v then keys.StaticMethod (of_class (let d =
+            n.owner in d.name) id) else keys.Super (of_class (let c = m.class in c.name) id)) e
 
         by : (b : Bool) → (is_constructor id.name || is_private flags) ≡ b → CallServed (card_type p) (is_of p) w q
             (names p) (names_in p m) (body_by_name m) 0xB7 id
         by true e =
-            let s = fixed.fixed_at list files judged p is subtypes described named known met has facts begin coded
-            m.class
-            id of n e (subst (λ (k : PoolKey). Holds (naming p) k) (key true e) holds) in
+            let s = fixed.fixed_at list codes p is subtypes described named known met has facts begin coded
+            m.class id of free n e (subst (λ (k : PoolKey). Holds (naming p) k) (key true e) holds) in
             serves.fixed s.method (ap (serves.entry_for q (names p)) (key true e) ∙ s.entry) s.right (subst
             (λ (k : PoolKey). MethodFits (card_type p) id (serves.type_for q (names p) k)) (sym (key true e)) s.fits)
             (subst (λ c. PassesFor (card_type p) (is_of p) w c (holder_of q s.method)) (sym (fixed.receiver_itself list
-            files judged p is subtypes described named known met has facts begin coded (body_by_name m) m.class id n e))
+            codes p is subtypes described named known met has facts begin coded (body_by_name m) m.class id n e))
             s.passes)
-        by false e = supers id of (n, e) (subst (λ (k : PoolKey). Holds (naming p) k) (key false e) holds) (key false
-            e)
+        by false e = supers id of free (n, e) (subst (λ (k : PoolKey). Holds (naming p) k) (key false e) holds)
+            (key false e)
 
     interface_served : (id : MemberId) → IsInsnOf p.files codes m.class (jop.Call 0xB9 id)
+        → works_on_int (jop.Call 0xB9 id) ≡ false
         → Holds (naming p) (keys.Class (let g = resolved_method w id in g.class))
         → CallServed (card_type p) (is_of p) w q (names p) (names_in p m) (body_by_name m) 0xB9 id
     unfolding with_pairs resolution
-    interface_served id of holds =
-        let word = word_of list files judged p is subtypes described named known met m.class 0xB9 id of in
-        let s = interface_at list files judged p is subtypes facts keep m.class id word of holds in
+    interface_served id of free holds =
+        let word = word_of list codes p is subtypes described named known met m.class 0xB9 id of free in
+        let s = interface_at list codes p is subtypes facts keep m.class id word of holds in
         serves.by_interface (class_ref p (let g = resolved_method w id in g.class)) s.type s.entry s.typed s.words
         s.fits s.passes
 
-    -- ---- any, where calls above are served
+    -- ---- any that does not work on int, where calls above are served
 
-    module _ (supers : (id : MemberId) → IsInsnOf p.files codes m.class (jop.Call 0xB7 id) → IsAbove id
+    module _ (supers : (id : MemberId) → IsInsnOf p.files codes m.class (jop.Call 0xB7 id) → works_on_int (jop.Call 0xB7
+        id) ≡ false → IsAbove id
         → Holds (naming p) (keys.Super (of_class (let c = m.class in c.name) id))
         → (let r = names_in p m in r.special id) ≡ keys.Super (of_class (let c = m.class in c.name) id)
         → CallServed (card_type p) (is_of p) w q (names p) (names_in p m) (body_by_name m) 0xB7 id) where
       call_served : (op : ℕ) (id : MemberId) → has_opcode (jop.Call op id) ≡ true
-          → IsInsnOf p.files codes m.class (jop.Call op id)
+          → IsInsnOf p.files codes m.class (jop.Call op id) → works_on_int (jop.Call op id) ≡ false
           → Holding (jop.Call op id)
           → CallServed (card_type p) (is_of p) w q (names p) (names_in p m) (body_by_name m) op id
       unfolding with_pairs resolution
-      call_served op id e = one_of (λ k. IsInsnOf p.files codes m.class (jop.Call k id)
-          → Holding (jop.Call k id)
+      call_served op id e = one_of (λ k. IsInsnOf p.files codes m.class (jop.Call k id) → works_on_int (jop.Call k id)
+          ≡ false → Holding (jop.Call k id)
           → CallServed (card_type p) (is_of p) w q (names p) (names_in p m) (body_by_name m) k id) op (0xB6 ∷ 0xB7 ∷
           0xB8
           ∷ 0xB9 ∷ []) (
-            (λ of holds_for. sent_served m.class id of holds_for),
+            (λ of free holds_for. sent_served m.class id of free holds_for),
             (
-              (λ of holds_for. special_served supers id of holds_for),
+              (λ of free holds_for. special_served supers id of free holds_for),
               (
-                (λ of holds_for. static_call_served id of holds_for),
+                (λ of free holds_for. static_call_served id of free holds_for),
                 (
-                  (λ of holds_for. interface_served id of (holds_for _ refl (keys.Class (let g = resolved_method w id
-                      in g.class)) refl)),
+                  (λ of free holds_for. interface_served id of free (holds_for _ refl (keys.Class (let g =
+                      resolved_method w id in g.class)) refl)),
                   tt,
                 ),
               ),
             ),
           ) e
 
-      op_served : (op : JOp) → IsInsnOf p.files codes m.class op → IsInstruction op
+      op_served : (op : JOp) → IsInsnOf p.files codes m.class op → works_on_int op ≡ false → IsInstruction op
           → Holding op → Served op
       unfolding names_unsupported works_on_int with_pairs resolution
-      op_served jop.Nop of h holds_for = serves.plain plain.nop
-      op_served jop.Null of h holds_for = serves.plain plain.aconst_null
-      op_served (jop.Number z) of h holds_for = serves.plain (plain.number h.numbers)
-      op_served (jop.Load false k) of h holds_for = serves.plain plain.iload
-      op_served (jop.Load true k) of h holds_for = serves.plain plain.aload
-      op_served (jop.Store false k) of h holds_for = serves.plain plain.istore
-      op_served (jop.Store true k) of h holds_for = serves.plain plain.astore
-      op_served (jop.ArrayLoad n) of h holds_for = serves.on_array (load_is n h.opcode (op_free p.files codes u.no_int
-          m.class (jop.ArrayLoad n) of))
-      op_served (jop.ArrayStore n) of h holds_for = serves.on_array (store_is n h.opcode (op_free p.files codes
-          u.no_int m.class (jop.ArrayStore n) of))
-      op_served (jop.Stack n) of h holds_for = serves.plain (stack_plain n h.opcode)
-      op_served (jop.Arith n) of h holds_for = serves.plain (arith_plain n h.opcode)
-      op_served (jop.Inc k z) of h holds_for = serves.plain (plain.iinc h.numbers)
-      op_served (jop.Narrow n) of h holds_for = serves.plain (narrow_plain n h.opcode)
-      op_served (jop.If n target) of h holds_for = serves.plain (if_plain n target h.opcode)
-      op_served (jop.Goto target) of h holds_for = serves.plain plain.goto
-      op_served (jop.TableSwitch other low targets) of h holds_for = serves.plain plain.tableswitch
-      op_served (jop.LookupSwitch other cases) of h holds_for = serves.plain plain.lookupswitch
-      op_served (jop.Return n) of h holds_for = serves.returns (return_is n h.opcode)
-      op_served (jop.Static put id) of h holds_for = static_served m.class put id of holds_for
-      op_served (jop.Field put id) of h holds_for = field_served m.class put id of (holds_for _ refl (keys.Field
-          (resolved_field w id))
-          refl)
-      op_served (jop.Call op id) of h holds_for = serves.a_call (call_served op id h.opcode of holds_for)
-      op_served (jop.New name) of h holds_for = new_served m.class name of holds_for
-      op_served (jop.NewArray n) of h holds_for = numbers_served n h (op_fit list.name p.files codes (settings_of
-          list) (kept_names u) m.class (jop.NewArray n) of).0
-          (op_free p.files codes u.no_int m.class (jop.NewArray n) of)
-      op_served (jop.ANewArray name) of h holds_for = array_served m.class name of holds_for
-      op_served jop.ArrayLength of h holds_for = serves.on_array arraylength
-      op_served jop.Throw of h holds_for = serves.throws
-      op_served (jop.CheckCast name) of h holds_for =
-          let c = cast_there list.name p.files codes (settings_of list) (kept_names u)
-          (are_spelt list files judged p is) m.class name of in
-          serves.a_cast (type_served name c.0 c.1 c.2 (λ number x e. holds_for (insns.TypeTest 0x94 number (Some x))
-          (ap (type_test 0x94) c.1 ∙ e) (keys.Class x) refl))
-      op_served (jop.InstanceOf name) of h holds_for =
-          let c = test_there list.name p.files codes (settings_of list) (kept_names u)
-          (are_spelt list files judged p is) m.class name of in
-          serves.a_test (type_served name c.0 c.1 c.2 (λ number x e. holds_for (insns.TypeTest 0x95 number (Some x))
-          (ap (type_test 0x95) c.1 ∙ asked c.0 number x e) (keys.Class x) refl))
+      op_served jop.Nop of free h holds_for = serves.plain plain.nop
+      op_served jop.Null of free h holds_for = serves.plain plain.aconst_null
+      op_served (jop.Number z) of free h holds_for = serves.plain (plain.number h.numbers)
+      op_served (jop.Load false k) of free h holds_for = serves.plain plain.iload
+      op_served (jop.Load true k) of free h holds_for = serves.plain plain.aload
+      op_served (jop.Store false k) of free h holds_for = serves.plain plain.istore
+      op_served (jop.Store true k) of free h holds_for = serves.plain plain.astore
+      op_served (jop.ArrayLoad n) of free h holds_for = serves.on_array (load_is n h.opcode free)
+      op_served (jop.ArrayStore n) of free h holds_for = serves.on_array (store_is n h.opcode free)
+      op_served (jop.Stack n) of free h holds_for = serves.plain (stack_plain n h.opcode)
+      op_served (jop.Arith n) of free h holds_for = serves.plain (arith_plain n h.opcode)
+      op_served (jop.Inc k z) of free h holds_for = serves.plain (plain.iinc h.numbers)
+      op_served (jop.Narrow n) of free h holds_for = serves.plain (narrow_plain n h.opcode)
+      op_served (jop.If n target) of free h holds_for = serves.plain (if_plain n target h.opcode)
+      op_served (jop.Goto target) of free h holds_for = serves.plain plain.goto
+      op_served (jop.TableSwitch other low targets) of free h holds_for = serves.plain plain.tableswitch
+      op_served (jop.LookupSwitch other cases) of free h holds_for = serves.plain plain.lookupswitch
+      op_served (jop.Return n) of free h holds_for = serves.returns (return_is n h.opcode)
+      op_served (jop.Static put id) of free h holds_for = static_served m.class put id of free holds_for
+      op_served (jop.Field put id) of free h holds_for = field_served m.class put id of free (holds_for _ refl
+          (keys.Field (resolved_field w id)) refl)
+      op_served (jop.Call op id) of free h holds_for = serves.a_call (call_served op id h.opcode of free holds_for)
+      op_served (jop.New name) of free h holds_for = new_served m.class name of holds_for
+      op_served (jop.NewArray n) of free h holds_for = numbers_served n h (op_fit list.name p.files codes (settings_of
+          list) u m.class (jop.NewArray n) of).0 free
+      op_served (jop.ANewArray name) of free h holds_for = array_served m.class name of holds_for
+      op_served jop.ArrayLength of free h holds_for = serves.on_array arraylength
+      op_served jop.Throw of free h holds_for = serves.throws
+      op_served (jop.CheckCast name) of free h holds_for =
+          let c = cast_there list.name p.files codes (settings_of list) u (are_spelt list codes p is.checked) m.class
+          name of in
+          serves.a_cast (type_served p (names_in p m) name c.0 c.1 c.2 (λ number x e. holds_for (insns.TypeTest 0x94
+          number (Some x)) (ap (type_test 0x94) c.1 ∙ e) (keys.Class x) refl))
+      op_served (jop.InstanceOf name) of free h holds_for =
+          let c = test_there list.name p.files codes (settings_of list) u (are_spelt list codes p is.checked) m.class
+          name of in
+          serves.a_test (type_served p (names_in p m) name c.0 c.1 c.2 (λ number x e. holds_for (insns.TypeTest 0x95
+          number (Some x)) (ap (type_test 0x95) c.1 ∙ asked c.0 number x e) (keys.Class x) refl))
         where
           asked : (kind : Shape (List ℕ)) (number : ℕ) (x : List ℕ) → type_test 0x94 (Some kind)
               ≡ insns.TypeTest 0x94 number (Some x) ∷ [] → type_test 0x95 (Some kind) ≡ insns.TypeTest 0x95 number (Some
@@ -486,12 +382,14 @@ module _ (list : ListTree) (files : List (List ℕ)) (judged : Judged) (p : Pack
           asked (OfNumbers Ints) number x e = absurd cc
 
       -- an instruction of any role, of what is written for it
-      served_as : (role : PairRole) (op : JOp) → IsInsnOf p.files codes m.class op → IsInstruction op
+      served_as : (role : PairRole) (op : JOp) → IsInsnOf p.files codes m.class op → works_on_int op ≡ false
+          → IsInstruction op
           → ((insn : NInsn) → written_as role (names_in p m) (label_in p m) op ≡ insn ∷ [] → Placed insn) → Served op
       unfolding with_pairs resolution
-      served_as role op of h = written_cases (λ is. ((insn : NInsn) → is ≡ insn ∷ [] → Placed insn) → Served op) role
-          (names_in p m) (label_in p m) op (λ e place. loads op e) (λ place. op_served op of h (λ insn e. held insn
-          (place insn e))) (λ a e place. closes op a e of place)
+      served_as role op of free h = written_cases (λ is. ((insn : NInsn) → is ≡ insn ∷ [] → Placed insn) → Served op)
+          role
+          (names_in p m) (label_in p m) op (λ e place. loads op e) (λ place. op_served op of free h (λ insn e. held insn
+          (place insn e))) (λ a e place. closes op a e of free place)
         where
           loads : (op : JOp) → is_load op ≡ true → Served op
           loads (jop.Load false k) e = serves.plain plain.iload
@@ -499,22 +397,23 @@ module _ (list : ListTree) (files : List (List ℕ)) (judged : Judged) (p : Pack
           loads op e = absurd cc
 
           closes : (op : JOp) (a : Access) → accessed op ≡ Some a → IsInsnOf p.files codes m.class op
+              → works_on_int op ≡ false
               → ((insn : NInsn) → on_this (names_in p m) (label_in p m) op (Some a) ≡ insn ∷ [] → Placed insn)
               → Served op
-          closes (jop.Field put f) a e of place =
+          closes (jop.Field put f) a e of free place =
               let same : record { put = put; field = f } ≡ a = cc in
-              field_served m.class put f of (held (insns.Named (this_access put (field_sort f.desc)) (keys.Field
+              field_served m.class put f of free (held (insns.Named (this_access put (field_sort f.desc)) (keys.Field
               (resolved_field w f))) (place _ (ap (λ x. on_this (names_in p m) (label_in p m) (jop.Field put f) (Some
               x))
               (sym same))) (keys.Field (resolved_field w f)) refl)
-          closes op a e of place = absurd cc
+          closes op a e of free place = absurd cc
 
-      -- a reached instruction
-      pub served_at : (at : ℕ) (i : JInsn) (x : State) → (let code = m.code in slice_get code.insns at ≡ Some i)
-          → HasRow m.rows at x → Served i.op
-      served_at at i x here row =
+      -- a reached instruction of a method that does not work on int
+      pub served_at : code_works_on_int p.files m.code ≡ false → (at : ℕ) (i : JInsn) (x : State)
+          → (let code = m.code in slice_get code.insns at ≡ Some i) → HasRow m.rows at x → Served i.op
+      served_at free at i x here row =
           let code = m.code in
-          let file = read_of p.files (read_files list files judged p is) code.class m.class (let of = b.is_method
+          let file = read_of p.files (read_files list codes p is.checked) code.class m.class (let of = b.is_method
           in of.is_class) in
           let fit = decoded_instruction m.class m.method m.tree code.insns (is_decoded p.files code m.class m.method
           m.tree b.is_method) file.integers (file.bytes code.method m.method m.tree (let of = b.is_method
@@ -524,14 +423,14 @@ module _ (list : ListTree) (files : List (List ℕ)) (judged : Judged) (p : Pack
             method = m.method;
             tree = m.tree;
             of_package = b.is_method;
-            written = plain_here list codes p (is_checked list files judged p is) (own_methods list files judged p is)
-                b.number m.laid b.is_laid m.class m.method m.tree b.named;
+            written = plain_here list codes p is.checked is.methods b.number m.laid b.is_laid m.class m.method m.tree
+                b.named;
             listed = b.listed;
             place = at;
             insn = i;
             is_insn = here;
             is_op = refl;
-          }) fit placed
+          }) (insn_free p.files code m.class m.method m.tree b.is_method free at i here) fit placed
         where
           placed : (insn : NInsn) → written_for (names_in p m) (label_in p m) i ≡ insn ∷ [] → Placed insn
           placed insn e =

@@ -51,6 +51,7 @@ use Rattle.cjc_accepted_proof.specs.Frames.{AreTypesFor, IsTypeFor, MethodFits, 
 use Rattle.cjc_accepted_proof.specs.Written.{written_pair}
 use Rattle.cjc_accepted_proof.proofs.NamesLaws.{ref_alike}
 use Rattle.cjc_narrow_proof.specs.Runs.Names.{IsWordField}
+use Rattle.cjc_narrow_proof.specs.Tables.Names.{IsDesc}
 use Rattle.cjc_check_proof.specs.Types.Types.{is_void, parts}
 
 -- ---- lists
@@ -99,7 +100,7 @@ module _ (p : Package) where
       there (OfNumbers element) k = refl
       there (OfReferences c) k = ap (λ b. if b then Some (shape_nibbles (class_ref p) (OfReferences c)) else None) k
 
-  shape_alike : (s : Shape (List ℕ)) → shape_nibbles (class_ref p) s ≡ shape_nibbles ref s
+  pub shape_alike : (s : Shape (List ℕ)) → shape_nibbles (class_ref p) s ≡ shape_nibbles ref s
   shape_alike (OfClass c) = ap (λ r. 6 ∷ ref_nibbles r) (sym (ref_alike p c))
   shape_alike (OfReferences c) = ap (λ r. 0xE ∷ ref_nibbles r) (sym (ref_alike p c))
   shape_alike (OfNumbers element) = refl
@@ -138,7 +139,7 @@ module _ (p : Package) where
   pub part_value : (x : Part) → is_word_sort (sort_of x) ≡ true → is_void x.kind ≡ false
   part_value x e = not_void x.kind x.class e
 
-  both_true : (a b : Bool) → (a && b) ≡ true → (a ≡ true) × (b ≡ true)
+  pub both_true : (a b : Bool) → (a && b) ≡ true → (a ≡ true) × (b ≡ true)
   both_true true b e = (refl, e)
   both_true false b e = absurd cc
 
@@ -257,7 +258,7 @@ module _ (p : Package) where
   -- ---- what they say
 
   -- the nibbles of a descriptor that the card has
-  nibbles_are : (desc : List ℕ) (nibbles : List ℕ) → pairs.nibbles_of q desc ≡ Some nibbles
+  pub nibbles_are : (desc : List ℕ) (nibbles : List ℕ) → pairs.nibbles_of q desc ≡ Some nibbles
       → (is_card_type desc (signature_of desc) ≡ true) × (nibbles_by ref desc (signature_of desc) ≡ nibbles)
   nibbles_are desc nibbles e = by (is_card_type desc (signature_of desc)) refl e
     where
@@ -275,15 +276,28 @@ module _ (p : Package) where
       record { params = map (type_for ref) (map sort_of d.params); result = result_for ref (result_by r.kind r) }
 
   -- its types by name
-  abbrev sorts_in : (desc : List ℕ) → Signature
+  abbrev pub sorts_in : (desc : List ℕ) → Signature
   sorts_in desc = let d = parts desc in let r = d.result in record {
     params = map sort_of d.params;
     result = result_by r.kind r;
   }
 
+  -- a method's descriptor has these
+  pub method_signature : (desc : List ℕ) → IsDesc desc → (let d = parts desc in d.is_method) ≡ true
+      → signature_of desc ≡ Some (sorts_in desc)
+  method_signature desc is method = ap (option_and_then signature_by) is ∙ ap (λ b. if b then Some (sorts_in desc)
+      else None) method
+
   pub word_signature : (desc : List ℕ) → IsWordDesc desc → signature_of desc ≡ Some (sorts_in desc)
-  word_signature desc word = ap (option_and_then signature_by) word.is_desc ∙ ap (λ b. if b then Some (sorts_in desc)
-      else None) word.is_method
+  word_signature desc word = method_signature desc word.is_desc word.is_method
+
+  -- the card has these
+  abbrev pub AreOnCard : (desc : List ℕ) → Type 0
+  AreOnCard desc = (let s = sorts_in desc in (list_all is_card_sort s.params && is_card_result s.result) ≡ true)
+
+  pub sorts_on_card : (desc : List ℕ) → signature_of desc ≡ Some (sorts_in desc) → is_card_type desc
+      (signature_of desc) ≡ true → AreOnCard desc
+  sorts_on_card desc sig on = sym (ap (is_card_type desc) sig) ∙ on
 
   -- values of those types pass
   pub word_fits : (m : MemberId) → IsWordDesc m.desc → types_known (is_known w) m.desc (signature_of m.desc) ≡ true
@@ -299,18 +313,20 @@ module _ (p : Package) where
         result = result_by_kind r.kind r refl word.result k.1;
       }
 
+  -- the type of the entry of a key, where its descriptor is a method's
+  pub entry_typed : (key : PoolKey) (desc : List ℕ) → EntrySays key desc → signature_of desc ≡ Some (sorts_in desc)
+      → entry_type q (let n = names p in n.index key) ≡ typed_as desc
+  entry_typed key desc says sig =
+      let s = sorts_in desc in
+      let n = nibbles_are desc says.nibbles says.wanted in
+      says.type_is ∙ ap (λ ns. type_by (types_in ns)) (sym n.1 ∙ ap (nibbles_by ref desc) sig)
+      ∙ method_read ref desc s (sorts_on_card desc sig n.0)
+
   -- a method's
   pub method_fits : (key : PoolKey) (m : MemberId) → EntrySays key m.desc → IsWordDesc m.desc
       → MethodFits (card_type p) m (entry_type q (let n = names p in n.index key))
-  method_fits key m says word =
-      let s = sorts_in m.desc in
-      let sig = word_signature m.desc word in
-      let n = nibbles_are m.desc says.nibbles says.wanted in
-      let card : (list_all is_card_sort s.params && is_card_result s.result) ≡ true = sym (ap (is_card_type m.desc) sig)
-      ∙ n.0 in
-      let t : type_by (types_in says.nibbles) ≡ typed_as m.desc = ap (λ ns. type_by (types_in ns)) (sym n.1
-      ∙ ap (nibbles_by ref m.desc) sig) ∙ method_read ref m.desc s card in
-      subst (MethodFits (card_type p) m) (sym (says.type_is ∙ t)) (word_fits m word says.known)
+  method_fits key m says word = subst (MethodFits (card_type p) m) (sym (entry_typed key m.desc says (word_signature
+      m.desc word))) (word_fits m word says.known)
 
   -- the card has these types
   sort_on : (s : Sort) → is_word_sort s ≡ true → is_card_sort s ≡ true
@@ -345,12 +361,10 @@ module _ (p : Package) where
       ap (λ b. b && is_card_result s.result) (all_on d.params word.params) ∙ result_on r.kind r word.result
 
   -- so its nibbles are read back as its types
-  pub word_typed : (desc : List ℕ) → IsWordDesc desc → option_map (λ nibbles. type_by (types_in nibbles))
-      (pairs.nibbles_of q desc) ≡ Some (typed_as desc)
-  word_typed desc word =
+  pub desc_typed : (desc : List ℕ) → signature_of desc ≡ Some (sorts_in desc) → AreOnCard desc → option_map (λ nibbles.
+      type_by (types_in nibbles)) (pairs.nibbles_of q desc) ≡ Some (typed_as desc)
+  desc_typed desc sig on =
       let s = sorts_in desc in
-      let sig = word_signature desc word in
-      let on = word_on desc word in
       ap (λ o. option_map (λ nibbles. type_by (types_in nibbles)) (if is_card_type desc o then Some (nibbles_by ref desc
       o) else None)) sig
       ∙ (ap (λ b. option_map (λ nibbles. type_by (types_in nibbles)) (if b then Some (nibbles_by ref desc (Some s))

@@ -1,5 +1,5 @@
 -- What is known of calls of methods of superclasses in a converted package's code, and of its pairs of instructions.
-use Rattle.std.specs.Prelude.{◌≡◌, ℕ, List}
+use Rattle.std.specs.Prelude.{◌≡◌, ℕ, List, false}
 use Rattle.cjc_verified_proof.specs.Bytecode.declared.insn.JOp.TheVariants as jop
 use Rattle.cjc_verified_proof.specs.Bytecode.declared.method_code.MethodCode.{MethodCode}
 use Rattle.cjc_verified_proof.specs.Bytes.declared.fault.MemberId.{MemberId}
@@ -9,6 +9,7 @@ use Rattle.cjc_verified_proof.specs.JvmSemantics.OnePackage.{of_class}
 use Rattle.cjc_verified_proof.specs.NCode.Lowering.Naming.{Holds}
 use Rattle.cjc_verified_proof.specs.NCode.declared.narrow.PoolKey.TheVariants as keys
 use Rattle.cjc_verified_proof.specs.TokenProof.Tables.Loading.{naming}
+use Rattle.cjc_token_proof.specs.Subset.Ints.{works_on_int}
 use Rattle.cjc_narrow_proof.specs.Laws.Unbroken.{IsInsnOf}
 use Rattle.cjc_narrow_proof.specs.Tables.Analysis.{IsDecoded}
 use Rattle.cjc_narrow_proof.specs.Tables.Pairs.{AreInPairs}
@@ -22,10 +23,11 @@ abbrev pub CallIsServed : Package → Beside → (opcode : ℕ) → MemberId →
 CallIsServed p m opcode id = CallServed (card_type p) (is_of p) (world p) (written_pair p) (names p) (names_in p m)
     (body_by_name m) opcode id
 
--- calls of methods of superclasses
+-- calls of methods of superclasses that have no int in their descriptors
 abbrev pub CallsAboveServed : Package → (codes : List MethodCode) → Type 0
 CallsAboveServed p codes = (m : Beside) → IsBeside p m codes → (id : MemberId)
     → (let class = m.class in IsInsnOf p.files codes class (jop.Call 0xB7 id))
+    → works_on_int (jop.Call 0xB7 id) ≡ false
     → (let class = m.class in Holds (naming p) (keys.Super (of_class class.name id)))
     → (let class = m.class in let r = names_in p m in r.special id ≡ keys.Super (of_class class.name id))
     → CallIsServed p m 0xB7 id

@@ -4,3 +4,4 @@ pub mod ExportsHaveCode
 pub mod CallsServed
 pub mod ReadFrom
 pub mod Stands
+pub mod Readable

@@ -3,14 +3,10 @@ ghost use Rattle.std.specs.Prelude.{ℕ, List};
 ghost use Rattle.cjc_verified_proof.specs.Components.Package.{Package};
 ghost use Rattle.cjc_theorem.specs.LowerJudge.declared.judged.Judged.{Judged};
 ghost use Rattle.cjc_verified_proof.specs.List.Listed.{ListTree};
-ghost use Rattle.cjc_theorem.specs.ShapeProof.Written.Converted.{IsConverted};
 ghost use Rattle.cjc_accepted_proof.specs.Accepted.{HasNoAbstract};
+ghost use Rattle.cjc_accepted_theorem.specs.Readable.{IsReadable};
 
 use crate::headers::converted_methods_begin;
-use cjc_theorem::alike::{converted_packages_are_laid_out, export_files_are_kept};
-use cjc_theorem::shape_proof::written::{
-    converted_classes_keep_rules, converted_methods_are_consistent,
-};
 use cjc_theorem::vtable::slot_laws::tokens_mean_methods;
 use cjc_theorem::vtable::{dispatch_laws, token_laws};
 use cjc_verified_proof::token_proof::calls::dispatch_agrees;
@@ -20,15 +16,11 @@ use cjc_verified_proof::world::lookup_laws;
 /// name gives what each of them means, and that is none of an abstract method.
 pub fn converted_packages_have_no_abstract_methods()
     ensures { (list : ListTree) (files : List (List ℕ)) (judged : Judged) (p : Package)
-        → IsConverted list files judged p → HasNoAbstract p }
+        → IsReadable list files judged p → HasNoAbstract p }
 {
-    converted_classes_keep_rules();
-    converted_methods_are_consistent();
     converted_methods_begin();
-    converted_packages_are_laid_out();
     dispatch_agrees();
     dispatch_laws();
-    export_files_are_kept();
     lookup_laws();
     token_laws();
     tokens_mean_methods();

@@ -12,7 +12,6 @@ ghost use Rattle.cjc_accepted_proof.specs.NarrowProof.Laws.Unbroken.{IsInsnOf};
 ghost use Rattle.cjc_verified_proof.specs.NCode.Lowering.Naming.{entry_of};
 ghost use Rattle.cjc_verified_proof.specs.NCode.declared.narrow.PoolKey.TheVariants as keys;
 ghost use Rattle.cjc_theorem.specs.LowerJudge.declared.judged.Judged.{Judged};
-ghost use Rattle.cjc_theorem.specs.ShapeProof.Written.Converted.{IsConverted};
 ghost use Rattle.cjc_verified_proof.specs.TokenProof.Components.OwnNames.{HaveOwnNames};
 ghost use Rattle.cjc_verified_proof.specs.List.Listed.{ListTree};
 ghost use Rattle.cjc_verified_proof.specs.Verify.Named.{named_desc};
@@ -20,15 +19,10 @@ ghost use Rattle.cjc_verified_proof.specs.World.Classes.{Class, class_named};
 ghost use Rattle.cjc_verified_proof.specs.World.Order.{class_order};
 ghost use Rattle.cjc_accepted_proof.specs.Carded.{EntriesAreNamed};
 ghost use Rattle.cjc_accepted_proof.specs.Written.{written_pair};
+ghost use Rattle.cjc_accepted_theorem.specs.Readable.{IsReadable};
 
-use cjc_theorem::alike::{
-    calls_have_opcodes, converted_packages_are_laid_out, export_files_are_kept,
-    super_calls_are_named, virtual_calls_are_named,
-};
-use cjc_theorem::shape_proof::written::{
-    converted_classes_keep_rules, converted_files_are_sound, converted_methods_are_consistent,
-    static_images_fit,
-};
+use cjc_theorem::alike::{calls_have_opcodes, super_calls_are_named, virtual_calls_are_named};
+use cjc_theorem::shape_proof::written::static_images_fit;
 use cjc_theorem::vtable::slot_laws::tokens_mean_methods;
 use cjc_theorem::vtable::{dispatch_laws, token_laws};
 use cjc_verified_proof::token_proof::tables::static_fields_are_told;
@@ -45,30 +39,23 @@ pub fn static_fields_are_named()
 /// is a class of the package: no other method begins where its own header stands.
 pub fn own_methods_are_named()
     ensures { (list : ListTree) (files : List (List ℕ)) (judged : Judged) (p : Package)
-        → IsConverted list files judged p
+        → IsReadable list files judged p
         → (class : ClassTree) (op : ℕ) (id : MemberId) → IsInsnOf p.files judged.codes class (jop.Call op id)
         → (c : Class) → (let m = resolved_method (world p) id in class_named (world p) m.class ≡ Some c)
         → c.is_imported ≡ false → is_interface c.flags ≡ false
         → named_desc (written_pair p) (entry_of (names p) (keys.StaticMethod (resolved_method (world p) id)))
         ≡ Some id.desc }
-{
-    converted_methods_are_consistent();
-}
+{}
 
 /// So each entry of a converted package's pool names a member of its key's descriptor: a field, a static method, a
 /// constructor or a private method by the class that declares it, a virtual method and one of a superclass by a token
 /// that means one of its descriptor.
 pub fn converted_packages_have_named_entries()
     ensures { (list : ListTree) (files : List (List ℕ)) (judged : Judged) (p : Package)
-        → IsConverted list files judged p → EntriesAreNamed p }
+        → IsReadable list files judged p → EntriesAreNamed p }
 {
     calls_have_opcodes();
-    converted_classes_keep_rules();
-    converted_files_are_sound();
-    converted_methods_are_consistent();
-    converted_packages_are_laid_out();
     dispatch_laws();
-    export_files_are_kept();
     lookup_laws();
     static_fields_are_told();
     static_images_fit();

@@ -4,13 +4,12 @@ ghost use Rattle.cjc_verified_proof.specs.Components.Package.{Package, world};
 ghost use Rattle.cjc_theorem.specs.LowerJudge.declared.judged.Judged.{Judged};
 ghost use Rattle.cjc_verified_proof.specs.List.Listed.{ListTree};
 ghost use Rattle.cjc_verified_proof.specs.TokenProof.Tables.Loading.{naming};
-ghost use Rattle.cjc_theorem.specs.ShapeProof.Written.Converted.{IsConverted};
 ghost use Rattle.cjc_accepted_proof.specs.CardActs.CardTypes.{is_type_of};
 ghost use Rattle.cjc_accepted_proof.specs.Frames.{AreFew, SubtypesAgree, type_named};
 ghost use Rattle.cjc_accepted_proof.specs.Read.{RefsAreRead};
+ghost use Rattle.cjc_accepted_theorem.specs.Readable.{IsReadable};
 
 use cjc_accepted_proof::subtypes::subtypes_are_read;
-use cjc_theorem::alike::converted_packages_are_laid_out;
 use cjc_theorem::shape_proof::written::laid_out_packages_fit;
 use cjc_verified_proof::token_proof::by_token::kinds_are_subtypes;
 
@@ -19,14 +18,13 @@ use cjc_verified_proof::token_proof::by_token::kinds_are_subtypes;
 /// java/lang/Object is of, and the card has few types.
 pub fn converted_packages_have_their_types()
     ensures refs { (list : ListTree) (files : List (List ℕ)) (judged : Judged) (p : Package)
-        → IsConverted list files judged p → RefsAreRead (world p) (naming p) }
+        → IsReadable list files judged p → RefsAreRead (world p) (naming p) }
     ensures subtypes { (list : ListTree) (files : List (List ℕ)) (judged : Judged) (p : Package)
-        → IsConverted list files judged p
+        → IsReadable list files judged p
         → (let n = naming p in SubtypesAgree (type_named (world p) n.class_ref) (is_type_of n.loaded) (world p)) }
     ensures few { (list : ListTree) (files : List (List ℕ)) (judged : Judged) (p : Package)
-        → IsConverted list files judged p → (let n = naming p in AreFew (type_named (world p) n.class_ref)) }
+        → IsReadable list files judged p → (let n = naming p in AreFew (type_named (world p) n.class_ref)) }
 {
-    converted_packages_are_laid_out();
     kinds_are_subtypes();
     laid_out_packages_fit();
     subtypes_are_read();

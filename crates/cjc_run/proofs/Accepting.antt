@@ -8,14 +8,13 @@ use Rattle.cjc_accepted_files.specs.Folder.{input_of, parts_of}
 use Rattle.cjc_cmd_compat.proofs.ListDecided.{listed_spelt}
 use Rattle.cjc_cmd_compat.specs.List.Listed.{ListTree, listed}
 use Rattle.cjc_cmd_make.specs.CmdConvert.Conversion.Conversion.{Conversion, ExportsAreFair, IsConverted}
-use Rattle.cjc_cmd_make.specs.CmdConvert.Conversion.Conversion.{NoneInIntMode}
 use Rattle.cjc_cmd_make.specs.CmdConvert.Publication.{below, files_made}
 use Rattle.cjc_cmd_verify.proofs.CmdJvmGathers.{is_read}
 use Rattle.cjc_cmd_verify.specs.CmdCard.Report.Runs as by_token
 use Rattle.cjc_cmd_verify.specs.CmdCard.Running.Package.{plan_behind_files, plan_behind_list, plan_behind_text}
 use Rattle.cjc_cmd_verify.specs.CmdCard.Running.Package.{plan_of_input}
 use Rattle.cjc_cmd_verify.specs.CmdCard.declared.running.input.Input.{Input}
-use Rattle.cjc_cmd_verify.specs.Judge.Rules.{files_spelt, on_first, on_second}
+use Rattle.cjc_cmd_verify.specs.Judge.Rules.{on_first, on_second}
 use Rattle.cjc_cmd_verify.specs.Judge.Spelt.{FileTree, IsRead, SpellTrees, exports_of}
 use Rattle.cjc_cmd_verify.specs.Verify.{AnyBreaks, BreaksTyping, Verifies, plan_of_verify}
 use Rattle.cjc_run.proofs.Got.{same_complete}
@@ -114,12 +113,6 @@ OverFair Holds list inputs made =
     (trees : List FileTree) → SpellTrees list.lines inputs trees → ExportsAreFair (exports_of trees)
     → Holds list inputs made
 
--- and none of whose methods is in int mode
-abbrev InShortMode : (ListTree → List (List ℕ) → Conversion → Type 0) → ListTree → List (List ℕ) → Conversion → Type 0
-InShortMode Holds list inputs made =
-    (trees : List FileTree) → SpellTrees list.lines inputs trees → ExportsAreFair (exports_of trees)
-    → NoneInIntMode list (files_spelt list trees) → Holds list inputs made
-
 -- its components are read where they stand
 abbrev AreReadBack : ListTree → List (List ℕ) → Conversion → Type 0
 AreReadBack list inputs made =
@@ -135,7 +128,7 @@ abbrev AreAccepted : ListTree → List (List ℕ) → Conversion → Type 0
 AreAccepted list inputs made = (b : Break) → BreaksTyping (input_of list inputs made.caps) b → ⊥
 
 module _ (back : OfConversions AreReadBack) (fine : OfConversions (OverFair BreakNothing))
-    (accepted : OfConversions (InShortMode AreAccepted))
+    (accepted : OfConversions (OverFair AreAccepted))
     (name dir : List ℕ) (files : Files) (is : AreWritten name dir files) where
   abbrev input : Input
   input = let made = is.made in input_of is.list is.inputs made.caps
@@ -167,7 +160,7 @@ module _ (back : OfConversions AreReadBack) (fine : OfConversions (OverFair Brea
   no_break : (b : Break) → AnyBreaks input b → ⊥
   no_break b (on_first x) = fine is.list is.inputs is.made list_is_read is.converted is.trees is.spell is.fair b x
   no_break b (on_second before p) = accepted is.list is.inputs is.made list_is_read is.converted is.trees is.spell
-      is.fair is.short b p
+      is.fair b p
 
   never_refused : (r : Refusal) → Verifies input (Err r) → ⊥
   never_refused r f = no_break f.broken f.first.breaks
@@ -179,7 +172,7 @@ EndsDone name dir answer told =
     → ((r : Refusal) → Verifies inputs (Err r) → ⊥) → (answer ≡ status.NoMemory) ⊎ (answer ≡ status.Done))
 
 module _ (back : OfConversions AreReadBack) (fine : OfConversions (OverFair BreakNothing))
-    (accepted : OfConversions (InShortMode AreAccepted))
+    (accepted : OfConversions (OverFair AreAccepted))
   where
     verified : (name dir : List ℕ) (answer : Status) (told : Option Files) → EndsDone name dir answer told
         → IfSome told (λ files. AreWritten name dir files → (answer ≡ status.NoMemory) ⊎ (answer ≡ status.Done))

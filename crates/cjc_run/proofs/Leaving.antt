@@ -1,9 +1,8 @@
 -- What a conversion that is done leaves: the files that it wrote stand in its folder.
 use Rattle.std.proofs.Common.{◌≡◌, ℕ, sym, ap, subst, ◌∙◌, List, map, Option, Some, None, IfSome, IsSomeAnd}
 use Rattle.cjc_cmd_compat.specs.List.Listed.{ListTree}
-use Rattle.cjc_cmd_make.specs.CmdConvert.Conversion.Conversion.{ExportsAreFair, NoneInIntMode}
+use Rattle.cjc_cmd_make.specs.CmdConvert.Conversion.Conversion.{ExportsAreFair}
 use Rattle.cjc_cmd_make.specs.CmdConvert.Publication.{below, files_made}
-use Rattle.cjc_cmd_verify.specs.Judge.Rules.{files_spelt}
 use Rattle.cjc_cmd_verify.specs.Judge.Spelt.{FileTree, SpellTrees, exports_of}
 use Rattle.cjc_run.proofs.Got.{same_complete}
 use Rattle.cjc_run.proofs.Standing.{stand_made}
@@ -25,8 +24,7 @@ abbrev IsLeft : (name dir : List ℕ) (before after : Files) → Type 0
 IsLeft name dir before after =
     (list : ListTree) (inputs : List (List ℕ)) → verdict before (plan_of_convert name) ≡ complete (list, inputs)
     → verdict after (plan_of_convert name) ≡ complete (list, inputs) → (trees : List FileTree)
-    → SpellTrees list.lines inputs trees → ExportsAreFair (exports_of trees)
-    → NoneInIntMode list (files_spelt list trees) → AreWritten name dir after
+    → SpellTrees list.lines inputs trees → ExportsAreFair (exports_of trees) → AreWritten name dir after
 
 left : (name dir : List ℕ) (files : Files) (new : Shelved) (todo : Todo)
     → IsReady (command_of (convert name dir)) (Some files) todo → IsWritten (Some files) todo new
@@ -38,7 +36,7 @@ left name dir files new todo ready written =
     let after : written_files todo.files files ≡ written_files all files =
     ap (λ (t : Todo). written_files t.files files) ready.made.3 in
     subst (λ (o : Option Files). IsSomeAnd o (IsLeft name dir files)) (sym written)
-    (λ list inputs read again trees spell fair short.
+    (λ list inputs read again trees spell fair.
     let same : (list, inputs) ≡ x = same_complete (list, inputs) x (sym read ∙ ready.read) in
     record {
       list = x.0;
@@ -50,7 +48,6 @@ left name dir files new todo ready written =
       trees = trees;
       spell = subst (λ (y : ListTree × List (List ℕ)). SpellTrees y.0.lines y.1 trees) same spell;
       fair = fair;
-      short = subst (λ (y : ListTree × List (List ℕ)). NoneInIntMode y.0 (files_spelt y.0 trees)) same short;
     })
 
 told_left : (name dir : List ℕ) (told : Option Files) (new : Shelved) (todo : Todo)

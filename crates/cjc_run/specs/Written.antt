@@ -1,9 +1,8 @@
 -- What `verify` answers of what `convert` wrote.
 use Rattle.std.specs.Prelude.{◌≡◌, ◌⊎◌, ℕ, List, map, IfSome}
 use Rattle.cjc_cmd_compat.specs.List.Listed.{ListTree}
-use Rattle.cjc_cmd_make.specs.CmdConvert.Conversion.Conversion.{Conversion, ExportsAreFair, IsConverted, NoneInIntMode}
+use Rattle.cjc_cmd_make.specs.CmdConvert.Conversion.Conversion.{Conversion, ExportsAreFair, IsConverted}
 use Rattle.cjc_cmd_make.specs.CmdConvert.Publication.{below, files_made}
-use Rattle.cjc_cmd_verify.specs.Judge.Rules.{files_spelt}
 use Rattle.cjc_cmd_verify.specs.Judge.Spelt.{FileTree, SpellTrees, exports_of}
 use Rattle.cjc_run.specs.Convert.{plan_of_convert}
 use Rattle.cjc_run.specs.Request.{Request, verify}
@@ -15,8 +14,8 @@ use Rattle.cjc_shelf.specs.Sink.{Sunk}
 use Rattle.cjc_shelf.specs.declared.command.status.Status.{Status}
 use Rattle.cjc_shelf.specs.declared.command.status.Status.TheVariants as status
 
--- The list of this name and its files are there, the export files among them are fair, no method of the class files is
--- in int mode, and in the folder stand the files that `convert` makes of these.
+-- The list of this name and its files are there, the export files among them are fair, and in the folder stand the files
+-- that `convert` makes of these.
 pub record AreWritten (name dir : List ℕ) (files : Files) : Type 0 where
   pub list : ListTree
   pub inputs : List (List ℕ)
@@ -27,7 +26,6 @@ pub record AreWritten (name dir : List ℕ) (files : Files) : Type 0 where
   pub trees : List FileTree
   pub spell : SpellTrees list.lines inputs trees
   pub fair : ExportsAreFair (exports_of trees)
-  pub short : NoneInIntMode list (files_spelt list trees)
 
 -- Over such files `verify` is done, want of memory aside, where no fault count rises.
 abbrev pub Accepts : Request → Shelved → Shelved → Sunk → Sunk → Status → Type 0

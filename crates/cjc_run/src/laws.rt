@@ -2,8 +2,7 @@
 
 ghost use Rattle.std.specs.Prelude.{◌≡◌, ℕ, List as Items, Some, IfSome, IsSomeAnd};
 ghost use Rattle.cjc_cmd_compat.specs.List.Listed.{ListTree};
-ghost use Rattle.cjc_cmd_make.specs.CmdConvert.Conversion.Conversion.{ExportsAreFair, NoneInIntMode};
-ghost use Rattle.cjc_cmd_verify.specs.Judge.Rules.{files_spelt};
+ghost use Rattle.cjc_cmd_make.specs.CmdConvert.Conversion.Conversion.{ExportsAreFair};
 ghost use Rattle.cjc_cmd_verify.specs.Judge.Spelt.{FileTree, SpellTrees, exports_of};
 ghost use Rattle.cjc_shelf.specs.Bytes.declared.fault.Refusal.{Refusal};
 ghost use Rattle.cjc_shelf.specs.Shelf.{Files, Shelved};
@@ -38,7 +37,7 @@ pub fn one_status()
 }
 
 /// Behind a conversion that is done stand the files of which `run` says that `verify` accepts them: where the list and
-/// its files were not written over, the export files among them are fair, and no method is in int mode.
+/// its files were not written over, and the export files among them are fair.
 pub fn done_conversions_are_written()
     ensures { (name dir : Items ℕ) (old new : Shelved) (from to : Sunk)
         → Acts (command_of (convert name dir)) old new from to answers.Done
@@ -46,7 +45,7 @@ pub fn done_conversions_are_written()
         → verdict before (plan_of_convert name) ≡ complete (list, inputs)
         → verdict after (plan_of_convert name) ≡ complete (list, inputs)
         → (trees : Items FileTree) → SpellTrees list.lines inputs trees → ExportsAreFair (exports_of trees)
-        → NoneInIntMode list (files_spelt list trees) → AreWritten name dir after)) }
+        → AreWritten name dir after)) }
 {}
 
 /// Whatever acts on what is asked for, accepts what a conversion wrote.

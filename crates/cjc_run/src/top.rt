@@ -97,8 +97,8 @@ pub fn run<S: Shelf, O: Sink>(alloc: Global, words: &[Bytes], shelf: &mut S, out
         (S.shelved shelf.new) (O.sunk out.old) (O.sunk out.new)) }
 
     // What `convert` wrote, `verify` accepts: where a list and its files are there, the export files among them are
-    // fair, no method is in int mode, and in the folder stand the files that `convert` makes of these, all is done,
-    // want of memory aside, where no fault count rises.
+    // fair, and in the folder stand the files that `convert` makes of these, all is done, want of memory aside, where
+    // no fault count rises.
     ensures accepted { IfSome (request words.now) (λ asked. Accepts asked (S.shelved shelf.old) (S.shelved shelf.new)
         (O.sunk out.old) (O.sunk out.new) result) }
 {

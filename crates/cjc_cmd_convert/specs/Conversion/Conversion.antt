@@ -31,7 +31,3 @@ ExportsAreFair exports = fair.ExportsAreFair exports
 -- The class files of a list over its export files, run by name, and these components, run by token, behave alike.
 abbrev pub BehaveAlike : ListTree → Files → CapTree → Type 0
 BehaveAlike list files cap = alike.BehaveAlike list files cap
-
--- No method of these files is in int mode.
-abbrev pub NoneInIntMode : ListTree → Files → Type 0
-NoneInIntMode list files = alike.NoneInIntMode list files

@@ -3,10 +3,8 @@ use Rattle.cjc_verified_proof.specs.Bytecode.PackageCodes.{all_codes}
 
 pub returns : goal.returns
 returns c = λ list files judged p is code.
-    let its = c.converted_files_are_sound.ensures in
-    c.written_packages_are_accepted.ensures (let w = p.files in all_codes w.classes) p (its.image list files judged p
-    is) (c.converted_methods_are_consistent.ensures.methods list files judged p is) (its.typed list files judged p is)
-    (c.sizes_fit.ensures.types list files judged p (c.converted_packages_are_laid_out.ensures list files judged p is) is.sizes)
+    c.written_packages_are_accepted.ensures (let w = p.files in all_codes w.classes) p is.runs.image is.methods
+    is.runs.typed (c.sizes_fit.ensures.types list files judged p is.laid is.sizes)
     (c.converted_packages_have_card_types.ensures list files judged p is)
     (c.converted_packages_have_named_entries.ensures list files judged p is)
     (c.converted_packages_have_fit_headers.ensures list files judged p is)

@@ -3,5 +3,4 @@ use Rattle.cjc_accepted_theorem.proofs.read_back.written_components_are_accepted
 
 pub returns : goal.returns
 returns c = λ list files judged p is verified.
-    read_back list files judged p is (c.converted_files_are_sound.ensures.image list files judged p is)
-    (c.components_are_whole.ensures p) verified
+    read_back list files p is.laid.is_package is.runs.image (c.components_are_whole.ensures p) verified

@@ -2,7 +2,6 @@ use Rattle.cjc_accepted_theorem.proofs.ThrownLaws.{thrown}
 use Rattle.cjc_accepted_theorem.proofs.served.converted_methods_are_served.Goals as goal
 use Rattle.cjc_verified_proof.specs.Components.Names.{class_ref}
 use Rattle.cjc_verified_proof.specs.Components.Package.{world}
-use Rattle.cjc_theorem.proofs.ShapeProofFiles.{files_sound}
 
 pub returns : goal.returns
 returns c = λ list files judged p is m b. record {
@@ -10,5 +9,5 @@ returns c = λ list files judged p is m b. record {
   few = c.converted_packages_have_their_types.ensures.few list files judged p is;
   arrays = c.types_of_arrays_agree.ensures (world p) (class_ref p);
   returned = b.result;
-  exceptions = thrown list.name p (files_sound list files judged p is);
+  exceptions = thrown list.name p is.runs.sound;
 }

@@ -5,6 +5,6 @@ pub returns : goal.returns
 returns c =
     let law = c.written_files_are_accepted.ensures in
     let before = c.written_files_break_nothing.ensures in
-    accepts before.read before.unbroken (λ list inputs made read converted trees spell fair short b p. law list inputs
-    made read converted trees spell fair short p.trees p.spell p.image p.is_image p.cap p.cap_is p.whole p.whole_is b
+    accepts before.read before.unbroken (λ list inputs made read converted trees spell fair b p. law list inputs
+    made read converted trees spell fair p.trees p.spell p.image p.is_image p.cap p.cap_is p.whole p.whole_is b
     p.broken)

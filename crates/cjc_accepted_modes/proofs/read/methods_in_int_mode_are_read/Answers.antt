@@ -1,0 +1,15 @@
+use Rattle.cjc_accepted_modes.proofs.ReadLaws.{is_read}
+use Rattle.cjc_accepted_modes.proofs.read.methods_in_int_mode_are_read.Goals as goal
+use Rattle.cjc_shape_proof.proofs.WrittenLaws.Checked.{files_sound}
+use Rattle.cjc_verified_proof.proofs.TokenProofOrder.{own_names}
+
+pub returns : goal.returns
+returns c = λ list files judged t p is by_modes m k b v there.
+    let of = is.of_files in
+    let apart = own_names list.name p.files (files_sound list judged.codes p of.checked) in
+    is_read list judged.codes p of apart is.methods
+    (c.methods_are_cut.ensures.whole p apart is.methods is.writable)
+    (c.converted_methods_begin.ensures list files judged p is)
+    (c.converted_packages_have_card_types.ensures list files judged p is)
+    (c.types_are_known.ensures list files judged p is.laid of) t by_modes m k b v there
+    (c.converted_methods_are_read.ensures list files judged p is k v there)
