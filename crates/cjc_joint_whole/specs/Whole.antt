@@ -1,6 +1,6 @@
 -- Packages that were tested and break no rule, as members of a group.
 use Rattle.std.specs.Prelude.{◌≡◌, ◌⊎◌, ◌+◌, ◌<◌, ℕ, List, Option, Some, false, length, slice_get, true}
-use Rattle.cjc_bytes.specs.AccessFlags.{is_interface, is_private}
+use Rattle.cjc_bytes.specs.AccessFlags.{is_abstract, is_interface, is_private}
 use Rattle.cjc_bytes.specs.declared.settings.Settings.{Settings}
 use Rattle.cjc_bytes.specs.declared.fault.MemberId.{MemberId}
 use Rattle.cjc_components.specs.Bytecode.declared.insn.JInsn.{JInsn}
@@ -11,10 +11,13 @@ use Rattle.cjc_components.specs.Package.{Package}
 use Rattle.cjc_vtable.specs.Fixpoint.Tables.{HasRow}
 use Rattle.cjc_vtable.specs.Kept.{ExportsAgree}
 use Rattle.cjc_world.specs.ClassFile.declared.tree.ClassTree.{ClassTree}
-use Rattle.cjc_world.specs.Classes.{Class, Member as WorldMember, all_classes}
+use Rattle.cjc_world.specs.ClassFile.declared.tree.MethodTree.{MethodTree}
+use Rattle.cjc_world.specs.Classes.{Class, Member as WorldMember, all_classes, class_named, declared}
 use Rattle.cjc_world.specs.ExportFile.Members.{is_unbound}
 use Rattle.cjc_world.specs.Files.{Files}
-use Rattle.cjc_world.specs.Lookup.{member_at}
+use Rattle.cjc_world.specs.Lookup.{first, member_at}
+use Rattle.cjc_world.specs.Supertypes.{line}
+use Rattle.cjc_world.specs.Upwards.{OnLine}
 use Rattle.cjc_world.specs.declared.found.Found.{Found}
 use Rattle.cjc_world.specs.declared.image.StaticImage.{StaticImage}
 use Rattle.cjc_world.specs.ExportFile.declared.tree.ExportClass.{ExportClass}
@@ -25,8 +28,8 @@ use Rattle.cjc_token_proof.specs.Types.declared.cell.Cell.{Cell}
 use Rattle.cjc_token_proof.specs.Types.declared.state.State.{State}
 use Rattle.cjc_token_proof.specs.Types.Search.{cells_of}
 use Rattle.cjc_jvm_semantics.specs.Linked.{Callee, Method}
-use Rattle.cjc_jvm_semantics.specs.Group.{is_package_visible, joint_exports, joint_image}
-use Rattle.cjc_jvm_semantics.specs.OnePackage.{ResolvedMember}
+use Rattle.cjc_jvm_semantics.specs.Group.{is_package_visible, joint_exports, joint_image, own_within}
+use Rattle.cjc_jvm_semantics.specs.OnePackage.{ResolvedMember, is_initialiser, method_hit}
 use Rattle.cjc_narrow_proof.specs.Runs.Calls.{Chooses, above_holder, by_interface, itself, on_class}
 use Rattle.cjc_narrow_proof.specs.Runs.Converted.{IsFirst}
 use Rattle.cjc_narrow_proof.specs.Runs.Names.{IsNamed, a_call_on_receiver}
@@ -36,11 +39,12 @@ use Rattle.cjc_shape_proof.specs.Written.Converted.{ExportsArePlain}
 use Rattle.cjc_shape_proof.specs.Written.Entries.{UnboundAreOwn}
 use Rattle.cjc_joint_proof.specs.Images.{TellOwnFields}
 use Rattle.cjc_joint_proof.specs.Sound.{AreSound}
-use Rattle.cjc_joint_proof.specs.Worlds.{AreApartFromOutside}
+use Rattle.cjc_joint_proof.specs.Worlds.{AreApartFromOutside, IsOwn, before, outside_classes}
 use Rattle.cjc_joint_theorem.specs.Members.{Member, files_of, homes_of, images_of, member_of, tables_of}
 use Rattle.cjc_joint_theorem.specs.Ordered.{IsOutsideOrdered}
+use Rattle.cjc_joint_theorem.specs.Together.Homes.{joint_world}
 use Rattle.cjc_joint_theorem.specs.Together.Names.{IsNamedIn}
-use Rattle.cjc_joint_whole.specs.Entries.{MeantAreListed}
+use Rattle.cjc_joint_whole.specs.Entries.{MeantAreListed, VirtualAreOwn}
 
 -- A package of read files that was tested and breaks no rule, over sound export files which don't contradict one another
 -- and list no private method, and of interfaces no static one, with its tables; what its static image says is of sound
@@ -56,15 +60,22 @@ pub record IsWholeMember (p : Member) : Type 0 where
   pub no_private : (k i : ℕ) (e : ExportClass) (m : ExportMethod)
       → (let f = p.files in slice_get (imports f.exports) k ≡ Some e) → slice_get e.methods i ≡ Some m
       → is_private m.flags ≡ false
+  -- methods of interfaces are public (Java Virtual Machine Specification, section 4.6): no rule tests it in class files
+  -- and export files, since in one package nothing depends on it
+  pub interfaces : (x : List ℕ) (c : Class) (i : ℕ) (m : WorldMember) → class_named (all_classes p.files) x ≡ Some c
+      → is_interface c.flags ≡ true → slice_get c.methods i ≡ Some m → is_initialiser m.name ≡ false
+      → is_package_visible m.flags ≡ false
 
 -- The export file is the one that is written for a package of these files. The static methods and constructors that it
--- lists are those that the classes of the package declare, and it lists the public and protected virtual ones.
+-- lists are those that the classes of the package declare, and it lists the public and protected virtual ones, and of
+-- virtual methods these alone.
 pub record IsWrittenFor (files : Files) (t : ExportTree) : Type 0 where
   pub exporter : Package
   pub same_files : exporter.files ≡ files
   pub is : t ≡ export_of exporter
   pub unbound : UnboundAreOwn exporter
   pub meant : MeantAreListed exporter
+  pub virtuals : VirtualAreOwn exporter
 
 -- An export file that the package at a place imports: the one that is written for a package before it, or one from
 -- outside.
@@ -72,6 +83,14 @@ pub data IsExport (members : List Member) (q : ℕ) (t : ExportTree) : Type 0 wh
   of_member : (j : ℕ) (m : Member) → j < q → slice_get members j ≡ Some m → IsWrittenFor m.files t
       → IsExport members q t
   from_outside : (n : ℕ) → slice_get (joint_exports (files_of members)) n ≡ Some t → IsExport members q t
+
+-- What the search of a class and its superclasses gives among the classes of a package is no abstract method.
+pub record HasCodeWithin (w : List Class) (package_name x name desc : List ℕ) : Type 0 where
+  pub place : Found
+  pub hit : ResolvedMember
+  pub found : first (own_within package_name name desc) (line w x) ≡ Some place
+  pub is_hit : method_hit w place ≡ Some hit
+  pub is_concrete : is_abstract hit.flags ≡ false
 
 -- Such packages, whose names differ, and which import what is written for packages before them, and export files from
 -- outside, whose classes list what is of its kind. Their images tell fields of their own classes.
@@ -83,6 +102,17 @@ pub record AreWhole (members : List Member) : Type 0 where
       → (let f = p.files in slice_get f.exports k ≡ Some t) → IsExport members q t
   pub order : IsOutsideOrdered (files_of members)
   pub told : TellOwnFields (files_of members) (images_of members)
+  -- a package-visible abstract method of a superclass in another package has code in that package, where the class is
+  -- not abstract (735)
+  pub implemented : (q j k n i : ℕ) (p m : Files) (t u : ClassTree) (x : MethodTree) → IsOwn (files_of members) q k p t
+      → IsOwn (files_of members) j n m u → (q ≡ j → ⊥) → is_interface t.flags ≡ false → is_abstract t.flags ≡ false
+      → OnLine (joint_world (files_of members)) t.name (declared (before (files_of members) j + n) u)
+      → slice_get u.methods i ≡ Some x → is_package_visible x.flags ≡ true → is_abstract x.flags ≡ true
+      → HasCodeWithin (joint_world (files_of members)) m.package_name t.name x.name x.desc
+  -- classes from outside list no package-visible method: export files have public and protected ones alone (Java Card
+  -- Virtual Machine Specification 2.2.2, section 5.9), and no rule tests that
+  pub shown : (k i : ℕ) (e : ExportClass) (m : ExportMethod) → slice_get (outside_classes (files_of members)) k ≡ Some e
+      → slice_get e.methods i ≡ Some m → is_initialiser m.name ≡ false → is_package_visible m.flags ≡ false
 
 -- ---- what is left to show of names in code
 
@@ -97,20 +127,23 @@ pub record IsOfMember (members : List Member) (c : Class) : Type 0 where
   pub file : (let f = member.files in slice_get f.classes number ≡ Some class)
   pub same_name : class.name ≡ c.name
 
--- A virtual method that is package-visible, or found in an interface, or in a class of another package of the group.
+-- A virtual method that is found in an interface, or in a class of another package of the group.
 abbrev pub IsLeftVirtual : List Member → ResolvedMember → Type 0
-IsLeftVirtual members hit = let c = hit.owner in (is_package_visible hit.flags ≡ true)
-    ⊎ ((is_interface c.flags ≡ true) ⊎ IsOfMember members c)
+IsLeftVirtual members hit = let c = hit.owner in (is_interface c.flags ≡ true) ⊎ IsOfMember members c
+
+-- Above the class that holds the code, also a package-visible one.
+abbrev pub IsLeftAbove : List Member → ResolvedMember → Type 0
+IsLeftAbove members hit = (is_package_visible hit.flags ≡ true) ⊎ IsLeftVirtual members hit
 
 module _ (members : List Member) {files : Files} {holder : List ℕ} {id : MemberId} {place : Found}
     {hit : ResolvedMember} where
-  -- What is called is selected by invokevirtual and such a method, or above the class that holds the code, or by
-  -- invokeinterface: it is neither a constructor nor private.
+  -- What is called is such a method and selected by invokevirtual or above the class that holds the code, or it is
+  -- selected by invokeinterface: it is neither a constructor nor private.
   abbrev pub IsSelecting : {op : ℕ} {class : List ℕ} {choice : List ℕ → Option Callee}
       → Chooses files holder id place hit op class choice → Type 0
   IsSelecting (on_class plain wanted) = IsLeftVirtual members hit
   IsSelecting (itself on special) = ⊥
-  IsSelecting (above_holder callee on plain is) = Unit {0}
+  IsSelecting (above_holder callee on plain is) = IsLeftAbove members hit
   IsSelecting (by_interface plain wanted) = Unit {0}
 
 module _ (members : List Member) {files : Files} {image : StaticImage} {near : List MemberId} {tables : Tables}

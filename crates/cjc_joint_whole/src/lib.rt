@@ -3,6 +3,10 @@
 //! here runs.
 #![tactic(auto)]
 
+pub mod above;
 pub mod exports;
+pub mod linking;
 pub mod members;
+pub mod modes;
+pub mod selected;
 pub mod tokens;

@@ -61,11 +61,17 @@ pub fn opened_methods_have_code()
         → is_abstract h.flags ≡ false }
 {}
 
+/// Each method that scripts name is one of a class file of a package, with code that is begun by the tables of that
+/// package, or the group has none for it.
+pub fn scripts_name_methods()
+    ensures { (members : List Member) → AreWhole members → AreScripted members }
+{}
+
 /// So for every script the joint run by name and that of their narrow code agree, where the methods that their code
-/// selects, and those that scripts name, stand for what the joint world has.
+/// selects stand for what the joint world has.
 pub fn whole_members_run_together()
     ensures { (members : List Member) (first : Member) → slice_get members 0 ≡ Some first → AreWhole members
-        → SelectionsStand members → AreScripted members → (script : Script)
+        → SelectionsStand members → (script : Script)
         → (let codes = own_codes (homes_of members) (tables_of members) in
         Agree 2 (λ n. run_group (files_of members) (images_of members) script n)
         (λ n. run_in_packages (joint_named (files_of members) (joint_image (images_of members)) codes)

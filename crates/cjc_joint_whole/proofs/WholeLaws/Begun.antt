@@ -38,7 +38,7 @@ module _ (members : List Member) (is : AreWhole members) (q : ℕ) (p : Member) 
   member_is : slice_get group q ≡ Some p.files
   member_is = files_at members q p at
 
-  place_here : (k : ℕ) (t : ClassTree) → (let f = p.files in slice_get f.classes k ≡ Some t) → place_of group t.name ≡ q
+  pub place_here : (k : ℕ) (t : ClassTree) → (let f = p.files in slice_get f.classes k ≡ Some t) → place_of group t.name ≡ q
   place_here k t file =
       let own : IsOwn group q k p.files t = record { member = member_is; file = file } in
       let f = p.files in

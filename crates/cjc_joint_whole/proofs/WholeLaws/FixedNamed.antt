@@ -66,13 +66,13 @@ pub record AloneLaws (p : Package) : Type 0 where
   pub facts : Facts p
 
 module _ (forms : FormsLaw) (offsets : OffsetsLaw) (p : Package) (alone : AloneLaws p) where
-  begins : BeginsAtOffsets p.files (world p) (naming p) (method_offset p) (place p)
+  pub begins : BeginsAtOffsets p.files (world p) (naming p) (method_offset p) (place p)
   begins =
       let r = alone.runs in
       let k = r.runnable in
       methods_begin forms offsets p k.ready k.methods (own_ids r.list p k.sound) (classes_stand r.list p k.sound)
 
-  among : (f : Found) (m : Method) → is_in_method (world p) f ≡ true → method_at p.files f ≡ Some m
+  pub among : (f : Found) (m : Method) → is_in_method (world p) f ≡ true → method_at p.files f ≡ Some m
       → IsAmong (placed_methods p) (place p m)
   among f m inside there =
       let r = alone.runs in
@@ -80,14 +80,14 @@ module _ (forms : FormsLaw) (offsets : OffsetsLaw) (p : Package) (alone : AloneL
       place_among forms offsets p k.ready k.methods (own_ids r.list p k.sound) (classes_stand r.list p k.sound) f m
       inside there
 
-  counts : Counts p (place p)
+  pub counts : Counts p (place p)
   counts =
       let r = alone.runs in
       let k = r.runnable in
       counts_from p r.words forms offsets k.ready k.methods (own_ids r.list p k.sound) (classes_stand r.list p k.sound)
 
   -- a method at a place of a class file stands in Method
-  inside_at : (x : List ℕ) (d : Class) → class_named (world p) x ≡ Some d → d.is_imported ≡ false
+  pub inside_at : (x : List ℕ) (d : Class) → class_named (world p) x ≡ Some d → d.is_imported ≡ false
       → is_interface d.flags ≡ false → (i : ℕ) (m : Member) → slice_get d.methods i ≡ Some m
       → is_initialiser m.name ≡ false → is_in_method (world p) (member_at d (length d.fields + i)) ≡ true
   inside_at x d known own kind i m there plain =

@@ -33,7 +33,7 @@ use Rattle.cjc_joint_theorem.specs.Together.Homes.{Homes, joint_world}
 use Rattle.cjc_joint_theorem.proofs.MembersLaws.Worlds.{member_at as member_of_files}
 use Rattle.cjc_joint_theorem.proofs.OrderedLaws.Ordered.{IsJoint, joint_class, ordered, outside_file, own_file}
 use Rattle.cjc_joint_whole.specs.Whole.{AreWhole}
-use Rattle.cjc_joint_whole.proofs.WholeLaws.Coded.{InFile, IsReachedOf, code_reached, found_there, hit_there}
+use Rattle.cjc_joint_whole.proofs.WholeLaws.Coded.{InFile, IsReachedOf, code_reached, hit_there}
 use Rattle.cjc_joint_whole.proofs.WholeLaws.Coded as coded
 use Rattle.cjc_joint_whole.proofs.WholeLaws.Members.{ordered_together, plain_together}
 use Rattle.cjc_joint_whole.proofs.WholeLaws.Opened.{opened_has_code}
@@ -78,7 +78,7 @@ module _ (members : List Member) (is : AreWhole members) (id : MemberId)
       pub named : class_named w class.name ≡ Some class
       pub at : IsWhere is_open id.name id.desc class f
 
-    holds : Holds
+    pub holds : Holds
     holds =
         let one = first_has opened (line w x) f found in
         let d = one.0 in
@@ -94,7 +94,7 @@ module _ (members : List Member) (is : AreWhole members) (id : MemberId)
     c = r.class
 
     -- one of a class file has code
-    concrete : (h : ResolvedMember) → f.imported ≡ false → method_hit w f ≡ Some h → (d : Class) → OnLine w x d
+    pub concrete : (h : ResolvedMember) → f.imported ≡ false → method_hit w f ≡ Some h → (d : Class) → OnLine w x d
         → class_named w d.name ≡ Some d → d.is_imported ≡ false → is_abstract h.flags ≡ false
     concrete h mine told d on named own =
         let low : c.is_imported ≡ false = ⊎_elim (λ imp. absurd (both (below_abroad w order x d.name c d

@@ -216,20 +216,26 @@ module _ (w : List Class) (by_rules : SelectsBy w) (s : Signature) (plain : is_s
         same_flags = flags_are ∙ h.has_flags;
       }
 
-  -- a class that declares it, the only one of its name and descriptor there
+  -- a class that declares it, the only one of its name and descriptor there, has it selected
+  pub own_selected : (c : Class) (i : ℕ) (m : Member) → slice_get c.methods i ≡ Some m
+      → is_called s.name s.desc m ≡ true
+      → position (λ (q : Member). is_called s.name s.desc q) c.methods ≡ Some i → is_open m.flags ≡ true
+      → sel c ≡ Some (member_at c (length c.fields + i))
+  unfolding own_method
+  own_selected c i m there called once open_one =
+      ap (option_map (λ n. member_at c (length c.fields + n))) (position_and (λ (q : Member). is_wanted true q.flags)
+      (λ (q : Member). is_called s.name s.desc q) c.methods i m there (open_parts m.flags open_one).0 called once)
+
   pub shows_here : (x : List ℕ) (c : Class) → class_named w x ≡ Some c → (i : ℕ) (m : Member)
       → slice_get c.methods i ≡ Some m → is_called s.name s.desc m ≡ true
       → position (λ (q : Member). is_called s.name s.desc q) c.methods ≡ Some i → is_open m.flags ≡ true
       → Shows w x s m.flags
-  unfolding own_method
   shows_here x c named i m there called once open_one =
       let parts = open_parts m.flags open_one in
-      let own : sel c ≡ Some (member_at c (length c.fields + i)) = ap (option_map (λ n. member_at c (length c.fields
-      + n))) (position_and (λ (q : Member). is_wanted true q.flags) (λ (q : Member). is_called s.name s.desc q)
-      c.methods i m there parts.0 called once) in
       record {
         place = member_at c (length c.fields + i);
-        found = search_from w by_rules.acyclic sel x c named (member_at c (length c.fields + i)) own;
+        found = search_from w by_rules.acyclic sel x c named (member_at c (length c.fields + i)) (own_selected c i m
+            there called once open_one);
         hit = record { owner = c; flags = m.flags };
         is_hit = hit_is w c i m (by_rules.numbered x c named) there;
         selectable = parts.0;
@@ -237,18 +243,11 @@ module _ (w : List Class) (by_rules : SelectsBy w) (s : Signature) (plain : is_s
         has_flags = refl;
       }
 
-  -- a class of the package that declares none which is public or protected, below one with it (305)
-  pub shows_above : (x y : List ℕ) (c : Class) → class_named w x ≡ Some c → c.is_imported ≡ false → c.supers
-      ≡ y ∷ [] → opened c ≡ None → (flags : ℕ) → Shows w y s flags → Shows w x s flags
-  shows_above x y c named own one none flags h = record {
-    place = h.place;
-    found = search_up w by_rules.acyclic sel x y c named one (nothing (sel c) refl) ∙ h.found;
-    hit = h.hit;
-    is_hit = h.is_hit;
-    selectable = h.selectable;
-    exposed = h.exposed;
-    has_flags = h.has_flags;
-  }
+  -- a class of the package that declares none which is public or protected, below one with it, declares none that is
+  -- selected (305)
+  pub none_selected : (x y : List ℕ) (c : Class) → class_named w x ≡ Some c → c.is_imported ≡ false → c.supers
+      ≡ y ∷ [] → opened c ≡ None → (flags : ℕ) → Shows w y s flags → sel c ≡ None
+  none_selected x y c named own one none flags h = nothing (sel c) refl
     where
       at : ShowsAt w y s flags h.place
       at = shows_at y flags h
@@ -279,6 +278,20 @@ module _ (w : List Class) (by_rules : SelectsBy w) (s : Signature) (plain : is_s
 
           clash_none : {g : Found} → Some g ≡ None → ⊥
           clash_none e = cc
+
+  -- so it has what that has
+  pub shows_above : (x y : List ℕ) (c : Class) → class_named w x ≡ Some c → c.is_imported ≡ false → c.supers
+      ≡ y ∷ [] → opened c ≡ None → (flags : ℕ) → Shows w y s flags → Shows w x s flags
+  shows_above x y c named own one none flags h = record {
+    place = h.place;
+    found = search_up w by_rules.acyclic sel x y c named one (none_selected x y c named own one none flags h)
+        ∙ h.found;
+    hit = h.hit;
+    is_hit = h.is_hit;
+    selectable = h.selectable;
+    exposed = h.exposed;
+    has_flags = h.has_flags;
+  }
 
 -- ---- what the export file lists
 

@@ -98,12 +98,25 @@ module _ (packages : List Package) (linked : AreLinked packages) (q r : ℕ) (p 
       ∙ virtual_bound m virtual in
       let o = out in
       let v = own (let z = h.entry in z.token) i o.class y.0 o.at plain y.1 bound in
-      let sign : signature_of v.member ≡ signature_of m = ap (λ (z : ExportMethod). signature_of (method_of_export z)) v.is
+      let sign : signature_of v.member ≡ signature_of m = ap (λ (z : ExportMethod). signature_of (method_of_export z))
+      v.is
       ∙ ap signature_of y.2 in
       ap (λ n. token (slots (line_of (world e) n)) (signature_of m)) (sym is_named)
       ∙ ap (token (slots (line_of (world e) (let w = o.class in w.name)))) (sym sign)
       ∙ v.its_token
       ∙ ap (λ (z : Member). Some z.token) y.2
+
+  -- a virtual method of the class is public or protected
+  pub listed_exposed : VirtualAreOwn e → (i : ℕ) (m : Member) → slice_get c.methods i ≡ Some m → is_virtual m ≡ true
+      → is_exposed m.flags ≡ true
+  listed_exposed own i m at virtual =
+      let y = entry_at i m at in
+      let bound : is_unbound y.0.flags y.0.name ≡ false = ap (λ (v : Member). is_unbound v.flags v.name) y.2
+      ∙ virtual_bound m virtual in
+      let o = out in
+      let v = own (let z = h.entry in z.token) i o.class y.0 o.at plain y.1 bound in
+      ap (λ (k : Member). is_exposed k.flags) (sym y.2) ∙ ap (λ (z : ExportMethod). is_exposed z.flags) (sym v.is)
+      ∙ v.exposed
 
   pub meant_tokens : MeantAreListed e → TokensAreOnce (world p) → (k : Class) → class_named (world e) x ≡ Some k
       → (t : ℕ) (f : Found) (m : Member) → slice_get (row (line_at (world e) k)) t ≡ Some (Some f)

@@ -1,8 +1,9 @@
 use Rattle.cjc_joint_theorem.proofs.MembersLaws.Joined.{runs}
 use Rattle.cjc_joint_whole.proofs.WholeLaws.Joined.{names_stand}
 use Rattle.cjc_joint_whole.proofs.WholeLaws.Members.{are_members}
+use Rattle.cjc_joint_whole.proofs.WholeLaws.Scripted.{scripted}
 use Rattle.cjc_joint_whole.proofs.members.whole_members_run_together.Goals as goal
 
 pub returns : goal.returns
-returns c = λ members first at is selects scripted script. runs members (are_members members is)
-    (names_stand members is selects) first at scripted script
+returns c = λ members first at is selects script. runs members (are_members members is)
+    (names_stand members is selects) first at (scripted members is) script
