@@ -12,6 +12,10 @@ pub mod Ownership
 mod Spotted
 pub mod Alike
 pub mod Rooms
+pub mod Fieldless
+pub mod FieldlessInt
+pub mod SameCode
+mod Mixed
 mod Laid
 pub mod LayoutsLaws
 pub mod ComponentLaws

@@ -41,6 +41,7 @@ pub mod pool {
 
 mod codes;
 pub mod component;
+mod keeping;
 mod laws;
 pub mod layouts;
 mod method;

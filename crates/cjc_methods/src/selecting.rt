@@ -183,7 +183,7 @@ pub(crate) fn place_of(world: &World<'_>, sources: Sources<'_>, member: Found) -
 }
 
 /// The narrow code of a member of a class of the package, without instructions where it has none.
-fn code_at(
+pub(crate) fn code_at(
     alloc: Global,
     world: &World<'_>,
     sources: Sources<'_>,
