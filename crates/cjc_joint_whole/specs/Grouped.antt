@@ -13,6 +13,7 @@ use Rattle.cjc_world.specs.ExportFile.declared.tree.ExportClass.{ExportClass}
 use Rattle.cjc_world.specs.ExportFile.declared.tree.ExportMethod.{ExportMethod}
 use Rattle.cjc_world.specs.Supertypes.{Lists}
 use Rattle.cjc_world.specs.Upwards.{IsOrdered}
+use Rattle.cjc_joint_whole.specs.Above.{FindsAbove}
 use Rattle.cjc_joint_whole.specs.Linking.{KeepGroupRules}
 use Rattle.cjc_joint_whole.specs.Selected.{SelectsAlone}
 
@@ -38,14 +39,18 @@ pub record OutsideIsFair (packages : List Package) : Type 0 where
       → Lists y (e.supers ++ e.interfaces) → class_named (world_together packages) y ≡ Some d → (b : Class)
       × (class_named (world p) y ≡ Some b)
 
+-- Methods of interfaces are public or protected, but for their initialisers. No rule asks it: the Java Virtual Machine
+-- Specification (section 4.6) has them public.
+abbrev pub InterfacesAreOpen : List Package → Type 0
+InterfacesAreOpen packages = (q k : ℕ) (p : Package) (x : List ℕ) (i : Class) (m : Member) → slice_get packages q
+    ≡ Some p → class_named (world p) x ≡ Some i → is_interface i.flags ≡ true → slice_get i.methods k ≡ Some m
+    → is_initialiser m.name ≡ false → is_exposed m.flags ≡ true
+
 -- Packages that link, each of which runs by itself and has its classes in order, over such files.
 pub record AreGrouped (packages : List Package) : Type 0 where
   pub keeps : KeepGroupRules packages
   pub each : (q : ℕ) (p : Package) → slice_get packages q ≡ Some p → SelectsAlone p
+  pub above : (q : ℕ) (p : Package) → slice_get packages q ≡ Some p → FindsAbove p
   pub ordered : (q : ℕ) (p : Package) → slice_get packages q ≡ Some p → IsOrdered (world p)
   pub fair : OutsideIsFair packages
-  -- Methods of interfaces are public or protected, but for their initialisers. No rule asks it: the Java Virtual Machine
-  -- Specification (section 4.6) has them public.
-  pub open_interfaces : (q k : ℕ) (p : Package) (x : List ℕ) (i : Class) (m : Member) → slice_get packages q ≡ Some p
-      → class_named (world p) x ≡ Some i → is_interface i.flags ≡ true → slice_get i.methods k ≡ Some m
-      → is_initialiser m.name ≡ false → is_exposed m.flags ≡ true
+  pub open_interfaces : InterfacesAreOpen packages

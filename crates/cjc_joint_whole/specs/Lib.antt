@@ -3,5 +3,9 @@ pub mod Entries
 pub mod Tokens
 pub mod Linking
 pub mod Selected
+pub mod Told
 pub mod Above
 pub mod Grouped
+pub mod ByModes
+pub mod Faces
+pub mod Sent

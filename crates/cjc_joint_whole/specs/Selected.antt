@@ -7,14 +7,14 @@ use Rattle.cjc_components.specs.Methods.{method_offset}
 use Rattle.cjc_components.specs.Package.{Package, world}
 use Rattle.cjc_joint_proof.specs.JointAlike.{IsOfGroup, callee_at, code_at, offset_at}
 use Rattle.cjc_joint_proof.specs.JointCode.{InPackage, JointCalls, of_package}
-use Rattle.cjc_joint_proof.specs.JointNames.{joint_calls}
+use Rattle.cjc_joint_proof.specs.JointNames.{hit_for, joint_calls}
 use Rattle.cjc_joint_proof.specs.JointPackages.{AreLinked, class_together, files_together}
 use Rattle.cjc_joint_proof.specs.JointTables.{KeepSupers, world_together}
 use Rattle.cjc_joint_proof.specs.JointTogether.{methods_together, naming_together}
 use Rattle.cjc_joint_proof.specs.JointTowers.{loaded_together}
 use Rattle.cjc_joint_proof.specs.Worlds.{before, found_in, outside_classes}
 use Rattle.cjc_joint_theorem.specs.Ordered.{AreOrdered}
-use Rattle.cjc_jvm_semantics.specs.Group.{is_of_group, is_open, own_where}
+use Rattle.cjc_jvm_semantics.specs.Group.{is_of_group, is_open, joint, own_where, selection_for}
 use Rattle.cjc_jvm_semantics.specs.Linked.{Method}
 use Rattle.cjc_jvm_semantics.specs.OnePackage.{ResolvedMember, first_imported, is_initialiser, method_hit}
 use Rattle.cjc_token_proof.specs.Calls.Dispatching.{event}
@@ -27,7 +27,7 @@ use Rattle.cjc_token_proof.specs.CardSemantics.Machine.Calls as card
 use Rattle.cjc_token_proof.specs.CardSemantics.Machine.Dispatch.{At, Outward, Selection, dispatched_open, tower}
 use Rattle.cjc_token_proof.specs.NCode.ByLabel.{Callee, OnInterface, OnObject}
 use Rattle.cjc_token_proof.specs.NCode.Lowering.Placed.{Placed}
-use Rattle.cjc_token_proof.specs.Script.Sorts.{Shape}
+use Rattle.cjc_token_proof.specs.Script.Sorts.{Shape, shape_name}
 use Rattle.cjc_token_proof.specs.Tables.Infos.{HasEntry}
 use Rattle.cjc_token_proof.specs.WrittenCalls.Calls.{Receives}
 use Rattle.cjc_token_proof.specs.WrittenSends.Named.{FaultsAreClasses, is_called}
@@ -39,7 +39,8 @@ use Rattle.cjc_world.specs.Classes.{Class, Member, class_named, method_of_export
 use Rattle.cjc_world.specs.ClassFile.declared.tree.ClassTree.{ClassTree}
 use Rattle.cjc_world.specs.ExportFile.declared.tree.ExportClass.{ExportClass}
 use Rattle.cjc_world.specs.ExportFile.declared.tree.ExportMethod.{ExportMethod}
-use Rattle.cjc_world.specs.Lookup.{find_method, first, is_selectable}
+use Rattle.cjc_world.specs.Lookup.{find_method, first, is_selectable, receiver}
+use Rattle.cjc_world.specs.Subtype.{is_subtype}
 use Rattle.cjc_world.specs.Supertypes.{Lists, line}
 use Rattle.cjc_world.specs.Upwards.{OnLine}
 use Rattle.cjc_world.specs.declared.found.Found.{Found}
@@ -157,6 +158,34 @@ module _ (packages : List Package) where
   OutsideClassesAgree = (q : ℕ) (p : Package) → slice_get packages q ≡ Some p → (x : List ℕ) (c : Class)
       → class_named (world p) x ≡ Some c → is_interface c.flags ≡ false → IsOutside packages p c → OutsideAgrees p x
 
+  -- ---- methods of interfaces
+
+  -- what the call of an interface's method by the code of the package at this place selects by token on an object of a
+  -- class
+  abbrev pub face_selection : (q n : ℕ) → MemberId → (x : List ℕ) → Selection
+  face_selection q n m x = card.selected (loaded_together packages) (callee_at (naming_together packages) (of_package q
+      (OnInterface n m))) (Some (class_together packages x))
+
+  -- Code of the package at this place calls a method of an interface on a receiver that is of it; and the joint world
+  -- has the class of the receiver, and the method.
+  pub record CallsFace (q n : ℕ) (m : MemberId) (kind : Shape (List ℕ)) (c : Class) (hit : ResolvedMember)
+      : Type 0 where
+    pub asker : Package
+    pub asks : slice_get packages q ≡ Some asker
+    pub called : is_called asker (OnInterface n m) ≡ true
+    pub receives : Receives (world_together packages) (Some kind)
+    pub below : is_subtype (world_together packages) (shape_name kind) m.class ≡ true
+    pub class : class_named (world_together packages) (receiver (shape_name kind)) ≡ Some c
+    pub is_hit : (let p = asker in hit_for (joint (files_together packages)) (world_together packages) p.files m)
+        ≡ Some hit
+
+  -- By token such a call selects what selection by name gives on an object of a class file.
+  pub record InterfacesSelectAlike : Type 0 where
+    pub in_file : (q n : ℕ) (m : MemberId) (kind : Shape (List ℕ)) (c : Class) (hit : ResolvedMember) (f : Found)
+        → CallsFace q n m kind c hit → c.is_imported ≡ false
+        → selection_for (world_together packages) hit (shape_name kind) m ≡ Some f
+        → SelectsAlike (receiver (shape_name kind)) (signature m) f (face_selection q n m (receiver (shape_name kind)))
+
 -- ---- calls
 
 module _ (packages : List Package) (at : Method → Placed) where
@@ -179,16 +208,17 @@ module _ (packages : List Package) (at : Method → Placed) where
         → (let calls = calls_together in calls.reached (of_package q m) o ≡ Within start)
         → IsOfGroup (loaded_together packages) (methods_together packages) start.code
 
-  -- What is left to say of a group: calls of methods of interfaces agree, and what scripts send to an object or array
-  -- is by token what it is by name, which is one of the methods of the group.
+  -- what scripts send to an object or array is one of the methods of the group
+  abbrev pub SentAreKnown : Type 0
+  SentAreKnown = (kind : Shape (List ℕ)) (id : MemberId) (start : Start (InPackage Placed))
+      → Receives (world_together packages) (Some kind) → (let calls = calls_together in calls.sent kind id ≡ Some start)
+      → IsOfGroup (loaded_together packages) (methods_together packages) start.code
+
+  -- What is left to say of a group: calls of methods of interfaces select alike, and what scripts send to an object or
+  -- array is by token what it is by name.
   pub record JointInterfacesAgree : Type 0 where
-    pub calls : (q : ℕ) (p : Package) → slice_get packages q ≡ Some p → (n : ℕ) (m : MemberId)
-        → is_called p (OnInterface n m) ≡ true → CallAgrees q (OnInterface n m)
+    pub calls : InterfacesSelectAlike packages
     pub sent : (kind : Shape (List ℕ)) (id : MemberId) → Receives (world_together packages) (Some kind)
         → card.sent (loaded_together packages) (shape_as (class_together packages) kind) id
         ≡ option_as (start_as (code_at (naming_together packages)) (offset_at (naming_together packages))) (let calls =
         calls_together in calls.sent kind id)
-    pub sent_known : (kind : Shape (List ℕ)) (id : MemberId) (start : Start (InPackage Placed))
-        → Receives (world_together packages) (Some kind)
-        → (let calls = calls_together in calls.sent kind id ≡ Some start)
-        → IsOfGroup (loaded_together packages) (methods_together packages) start.code

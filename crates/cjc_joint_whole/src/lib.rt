@@ -5,8 +5,10 @@
 
 pub mod above;
 pub mod exports;
+pub mod faces;
 pub mod linking;
 pub mod members;
 pub mod modes;
 pub mod selected;
+pub mod sent;
 pub mod tokens;

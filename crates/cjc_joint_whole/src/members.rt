@@ -13,6 +13,7 @@ ghost use Rattle.cjc_joint_theorem.specs.Members.{files_of, homes_of, images_of,
 ghost use Rattle.cjc_joint_theorem.specs.Ordered.{AreOrdered};
 ghost use Rattle.cjc_joint_theorem.specs.Together.Calls.{IsStaticIn};
 ghost use Rattle.cjc_joint_theorem.specs.Together.Homes.{joint_world, own_codes};
+ghost use Rattle.cjc_joint_whole.specs.Told.{IsToldAbove, RestStands};
 ghost use Rattle.cjc_joint_whole.specs.Whole.{AreWhole, SelectionsStand};
 ghost use Rattle.cjc_narrow_proof.specs.Runs.Calls.{IsStaticOn};
 ghost use Rattle.cjc_token_proof.specs.CardSemantics.Bytecode.Runs.{Agree};
@@ -59,6 +60,14 @@ pub fn opened_methods_have_code()
         → is_interface t.flags ≡ false → is_abstract t.flags ≡ false
         → first (own_where is_open id.name id.desc) (line (joint_world (files_of members)) t.name) ≡ Some f
         → is_abstract h.flags ≡ false }
+{}
+
+/// Where what stands above classes and interfaces is told, public and protected methods that code selects by
+/// invokevirtual and invokeinterface stand for what the joint world has, whichever class or interface declares them. Left
+/// are some above the class that holds the code.
+pub fn told_methods_are_selected()
+    ensures { (members : List Member) → AreWhole members → IsToldAbove members → RestStands members
+        → SelectionsStand members }
 {}
 
 /// Each method that scripts name is one of a class file of a package, with code that is begun by the tables of that

@@ -1,11 +1,14 @@
 //! Packages by the modes of their methods, as members of a group: what is asked of one that by itself runs by token as
 //! its narrow code does. It has laws alone; nothing here runs.
-ghost use Rattle.std.specs.Prelude.{ℕ, List};
+ghost use Rattle.std.specs.Prelude.{◌≡◌, ℕ, List, Some, slice_get};
 ghost use Rattle.cjc_components.specs.Bytecode.declared.method_code.MethodCode.{MethodCode};
 ghost use Rattle.cjc_components.specs.Package.{Package};
 ghost use Rattle.cjc_int_components.specs.Modes.{Tables};
 ghost use Rattle.cjc_int_theorem.specs.ByModes.{IsConvertedByModes};
 ghost use Rattle.cjc_joint_whole.specs.Above.{FindsAbove, ImportsKeepKinds};
+ghost use Rattle.cjc_joint_whole.specs.ByModes.{IsWrittenByModes};
+ghost use Rattle.cjc_joint_whole.specs.Grouped.{AreGrouped, InterfacesAreOpen, OutsideIsFair};
+ghost use Rattle.cjc_joint_whole.specs.Linking.{KeepGroupRules};
 ghost use Rattle.cjc_joint_whole.specs.Selected.{SelectsAlone};
 ghost use Rattle.cjc_joint_whole.specs.Tokens.{RunsAlone};
 ghost use Rattle.cjc_shape_proof.specs.LowerJudge.declared.judged.Judged.{Judged};
@@ -46,4 +49,13 @@ pub fn packages_by_modes_select_alone()
     checked_packages_list_virtual_methods();
     packages_by_modes_are_of_files();
     packages_by_modes_run_alone();
+}
+
+/// So packages by modes that a group links, over fair files from outside, need nothing else to run together.
+pub fn packages_by_modes_are_grouped()
+    ensures { (packages : List Package) → KeepGroupRules packages
+        → ((q : ℕ) (p : Package) → slice_get packages q ≡ Some p → IsWrittenByModes p) → OutsideIsFair packages
+        → InterfacesAreOpen packages → AreGrouped packages }
+{
+    packages_by_modes_select_alone();
 }

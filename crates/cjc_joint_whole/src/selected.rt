@@ -17,14 +17,16 @@ ghost use Rattle.cjc_joint_proof.specs.JointTowers.{loaded_together};
 ghost use Rattle.cjc_jvm_semantics.specs.Group.{joint_image};
 ghost use Rattle.cjc_jvm_semantics.specs.Linked.{Method};
 ghost use Rattle.cjc_joint_whole.specs.Above.{FindsAbove};
-ghost use Rattle.cjc_joint_whole.specs.Selected.{CallAgrees, JointInterfacesAgree, OpenSelectionsAgree};
-ghost use Rattle.cjc_joint_whole.specs.Selected.{SelectTogether, SelectsAlone, TokensGoDown, calls_together};
+ghost use Rattle.cjc_joint_whole.specs.Selected.{CallAgrees, InterfacesSelectAlike, JointInterfacesAgree};
+ghost use Rattle.cjc_joint_whole.specs.Selected.{OpenSelectionsAgree, SelectTogether, SelectsAlone, TokensGoDown};
+ghost use Rattle.cjc_joint_whole.specs.Selected.{calls_together};
+ghost use Rattle.cjc_joint_whole.specs.Selected.{SentAreKnown};
 ghost use Rattle.cjc_joint_whole.specs.Tokens.{stands_at};
 ghost use Rattle.cjc_shape_proof.specs.LowerJudge.declared.judged.Judged.{Judged};
 ghost use Rattle.cjc_shape_proof.specs.Written.Converted.{IsConverted};
 ghost use Rattle.cjc_token_proof.specs.CardSemantics.Machine.ByToken.{run as run_by_token};
 ghost use Rattle.cjc_token_proof.specs.List.Listed.{ListTree};
-ghost use Rattle.cjc_token_proof.specs.NCode.ByLabel.{OnObject};
+ghost use Rattle.cjc_token_proof.specs.NCode.ByLabel.{OnInterface, OnObject};
 ghost use Rattle.cjc_token_proof.specs.NCode.Lowering.Agreement.{known_by};
 ghost use Rattle.cjc_token_proof.specs.NCode.Lowering.Placed.{Placed};
 ghost use Rattle.cjc_token_proof.specs.Script.declared.report.Outcome.TheVariants.{Stuck};
@@ -75,6 +77,29 @@ pub fn joint_object_calls_agree()
     token_laws();
 }
 
+/// What it calls of interfaces takes the words that it says, and reaches by token what it reaches by name: the event of
+/// the interface on an object of a class from outside, or an array, and on others where both select the same methods.
+pub fn joint_interface_calls_agree()
+    ensures { (packages : List Package) → SelectTogether packages → (at : Method → Placed)
+        → StandByPackage packages at → InterfacesSelectAlike packages → (q : ℕ) (p : Package)
+        → slice_get packages q ≡ Some p → (n : ℕ) (m : MemberId) → is_called p (OnInterface n m) ≡ true
+        → CallAgrees packages at q (OnInterface n m) }
+{
+    dispatch_laws();
+    layouts_are_laid_out();
+    token_laws();
+}
+
+/// What scripts send to an object or an array is a method with code of a package of the group.
+pub fn joint_sent_methods_are_known()
+    ensures { (packages : List Package) → SelectTogether packages → (at : Method → Placed)
+        → StandByPackage packages at → SentAreKnown packages at }
+{
+    dispatch_laws();
+    layouts_are_laid_out();
+    token_laws();
+}
+
 /// All calls that are selected by their receivers agree, where those of methods of interfaces do and what scripts send.
 pub fn joint_selections_agree()
     ensures { (packages : List Package) → SelectTogether packages
@@ -83,7 +108,9 @@ pub fn joint_selections_agree()
         → JointSelectionsAgree (naming_together packages) (methods_together packages) (memories_together packages)
         (calls_together packages at) (known_by (known_together packages)) (IsCalled (called_together packages)) }
 {
+    joint_interface_calls_agree();
     joint_object_calls_agree();
+    joint_sent_methods_are_known();
     joint_super_calls_agree();
 }
 

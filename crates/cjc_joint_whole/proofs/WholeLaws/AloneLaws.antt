@@ -41,7 +41,7 @@ module _ (virtual_calls : (w : List Class) → KeepsRules w → VirtualCallsAgre
   lead_there = all_lead packages is.linked (λ q p it. (let s = is.each q p it in let r = s.runs in lists_methods p
       r.unbound))
 
-  facts_there : (q : ℕ) (p : Package) → slice_get packages q ≡ Some p → Facts p
+  pub facts_there : (q : ℕ) (p : Package) → slice_get packages q ≡ Some p → Facts p
   facts_there q p it = let a = alone_laws q p it in a.facts
 
   -- what it imports lists no package-visible method

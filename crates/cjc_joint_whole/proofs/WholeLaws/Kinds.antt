@@ -34,7 +34,7 @@ use Rattle.cjc_token_proof.specs.WrittenCalls.Calls.{Receives, none, numbers, on
 use Rattle.cjc_token_proof.specs.WrittenSends.Named.{is_called}
 use Rattle.cjc_world.proofs.Cycles.{class_named-name}
 use Rattle.cjc_world.specs.Classes.{Class, class_named, imported}
-use Rattle.cjc_joint_whole.specs.Selected.{CallAgrees, JointInterfacesAgree, SelectTogether, calls_together}
+use Rattle.cjc_joint_whole.specs.Selected.{CallAgrees, JointInterfacesAgree, SelectTogether, SentAreKnown, calls_together}
 
 -- what is named among names of faults is the name of one
 fault_of : (faults : List Fault) (x : List ℕ) → list_any (λ name. bytes_eq name x) (map fault_name faults) ≡ true
@@ -131,13 +131,15 @@ module _ (packages : List Package) (is : SelectTogether packages) where
   module _ (at : Method → Placed) (objects : (q : ℕ) (p : Package) → slice_get packages q ≡ Some p → (m : MemberId)
       → is_called p (OnObject m) ≡ true → CallAgrees packages at q (OnObject m)) (supers : (q : ℕ) (p : Package)
       → slice_get packages q ≡ Some p → (m : MemberId) → is_called p (OnSuper m) ≡ true
-      → CallAgrees packages at q (OnSuper m)) (interfaces : JointInterfacesAgree packages at) where
+      → CallAgrees packages at q (OnSuper m)) (faces : (q : ℕ) (p : Package) → slice_get packages q ≡ Some p → (n : ℕ)
+      (m : MemberId) → is_called p (OnInterface n m) ≡ true → CallAgrees packages at q (OnInterface n m))
+      (interfaces : JointInterfacesAgree packages at) (sent_known : SentAreKnown packages at) where
     of_kind : (q : ℕ) (p : Package) → slice_get packages q ≡ Some p → (x : Callee) → is_called p x ≡ true
         → IsSelecting x → CallAgrees packages at q x
     of_kind q p it (Fixed on id) called kind = absurd kind
     of_kind q p it (OnObject m) called kind = objects q p it m called
     of_kind q p it (OnSuper m) called kind = supers q p it m called
-    of_kind q p it (OnInterface n m) called kind = interfaces.calls q p it n m called
+    of_kind q p it (OnInterface n m) called kind = faces q p it n m called
 
     call_agrees : (q : ℕ) (x : Callee) → called_together packages (of_package q x) ≡ true → IsSelecting x
         → CallAgrees packages at q x
@@ -156,5 +158,5 @@ module _ (packages : List Package) (is : SelectTogether packages) where
       reached_known = λ m o start called kind thing e. (let c = call_agrees m.part m.item called kind in c.known o start
           (received_by o thing) e);
       sent = λ kind id thing. interfaces.sent kind id (received kind thing);
-      sent_known = λ kind id start thing e. interfaces.sent_known kind id start (received kind thing) e;
+      sent_known = λ kind id start thing e. sent_known kind id start (received kind thing) e;
     }

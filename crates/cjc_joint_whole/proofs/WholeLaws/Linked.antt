@@ -1,6 +1,6 @@
 -- Packages that break no rule together link with one another: what each imports is what is written for a package before
 -- it, or of no package of the group, and then the same for all (rules 731 to 734).
-use Rattle.std.proofs.Common.{◌≡◌, ◌⊎◌, ℕ, zero, suc, ◌+◌, sym, ap, subst, ◌∙◌, arith, Bool, true, false, List, []}
+use Rattle.std.proofs.Common.{◌≡◌, ℕ, zero, suc, ◌+◌, sym, ap, subst, ◌∙◌, arith, Bool, true, false, List, []}
 use Rattle.std.proofs.Common.{◌∷◌, Some, flat_map, inl, length, refl, ⊎_elim}
 use Rattle.std.specs.Prelude.{map, option_map, slice_get}
 use Rattle.std.specs.List.{list_any}

@@ -47,7 +47,7 @@ use Rattle.cjc_tokens.specs.Members.{Signature, is_constructor, is_initialiser, 
 use Rattle.cjc_tokens.specs.Slots.{slots, token}
 use Rattle.cjc_vtable.proofs.Agrees.{shown_selects}
 use Rattle.cjc_vtable.specs.Calls.{is_special, selects, selects_shown}
-use Rattle.cjc_vtable.specs.Laws.{CallsAlike, TokensOnce, below, itself, selection}
+use Rattle.cjc_vtable.specs.Laws.{CallsAlike, TokensOnce, below, itself}
 use Rattle.cjc_world.proofs.Cycles.{class_named-name}
 use Rattle.cjc_world.proofs.Settled.{supertypes-known}
 use Rattle.cjc_world.proofs.Upwards.{line_goes_up}
@@ -58,7 +58,7 @@ use Rattle.cjc_world.specs.Classes.{Class, Member, class_named, declared}
 use Rattle.cjc_world.specs.Files.{Files}
 use Rattle.cjc_world.specs.Lookup.{first, is_called, is_selectable, is_wanted, member_at, own_method}
 use Rattle.cjc_world.specs.Supertypes.{IsAcyclic, Lists, foremost, line, supertypes, upwards}
-use Rattle.cjc_world.specs.Upwards.{IsOrdered, here}
+use Rattle.cjc_world.specs.Upwards.{IsOrdered}
 use Rattle.cjc_world.specs.declared.found.Found.{Found}
 use Rattle.cjc_joint_whole.specs.Selected.{FindsOpen, OpenSelectionsAgree, OutsideClassesAgree, SelectTogether}
 use Rattle.cjc_joint_whole.specs.Selected.{SelectsAlike, from_outside, in_package}

@@ -58,13 +58,13 @@ same_hit : {a b : ResolvedMember} → Some a ≡ Some b → a ≡ b
 same_hit e = cc
 
 -- what is public or protected is not package-visible
-seen_so : (flags : ℕ) → is_exposed flags ≡ true → is_package_visible flags ≡ false
+pub seen_so : (flags : ℕ) → is_exposed flags ≡ true → is_package_visible flags ≡ false
 seen_so flags e = ap (λ b. not b && not (is_private flags)) e
 
 -- ---- what a class declares first
 
 -- the first method of a name and descriptor, by its flags
-first_flags : (w : List Class) (s : Signature) (c : Class) (f : Found) (h : ResolvedMember)
+pub first_flags : (w : List Class) (s : Signature) (c : Class) (f : Found) (h : ResolvedMember)
     → class_at w c.is_imported c.number ≡ Some c → own_method false s.name s.desc c ≡ Some f
     → method_hit w f ≡ Some h → (n : Member) × (chosen any_method s c.methods ≡ Some n) × (h.flags ≡ n.flags)
     × (h.owner ≡ c)
@@ -75,7 +75,7 @@ first_flags w s c f h at own hit =
     (n, o.is_first, ap (λ (k : ResolvedMember). k.flags) same, ap (λ (k : ResolvedMember). k.owner) same)
 
 -- two classes of the same methods declare the same first
-same_first : (v w : List Class) (s : Signature) (c d : Class) (f g : Found) (h k : ResolvedMember)
+pub same_first : (v w : List Class) (s : Signature) (c d : Class) (f g : Found) (h k : ResolvedMember)
     → class_at v c.is_imported c.number ≡ Some c → class_at w d.is_imported d.number ≡ Some d
     → c.methods ≡ d.methods → own_method false s.name s.desc c ≡ Some f → method_hit v f ≡ Some h
     → own_method false s.name s.desc d ≡ Some g → method_hit w g ≡ Some k → k.flags ≡ h.flags
@@ -96,7 +96,7 @@ module _ (files : Files) (order : IsOrdered (all_classes files)) (x : List ℕ) 
   abbrev seen_first : Class → Option Found
   seen_first = own_where is_exposed id.name id.desc
 
-  exposed_hit : is_exposed h.flags ≡ true
+  pub exposed_hit : is_exposed h.flags ≡ true
   exposed_hit = by (first seen_first (line u x)) refl found
     where
       at_one : (d : Class) → class_named u d.name ≡ Some d → seen_first d ≡ Some f → is_exposed h.flags ≡ true

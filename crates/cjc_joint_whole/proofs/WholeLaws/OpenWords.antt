@@ -42,7 +42,7 @@ use Rattle.cjc_token_proof.specs.WrittenCalls.Standing.{place}
 use Rattle.cjc_tokens.proofs.Facts.{got-at, has-got_none, has-own_none, own-at}
 use Rattle.cjc_tokens.proofs.Held.{here-has_slot, token-slot}
 use Rattle.cjc_tokens.specs.Lines.{Declared, line_in, line_of}
-use Rattle.cjc_tokens.specs.Members.{Signature, has, is_shown, signature_of, signatures}
+use Rattle.cjc_tokens.specs.Members.{Signature, is_shown, signature_of, signatures}
 use Rattle.cjc_tokens.specs.Slots.{got, has_slot, implementing, own, slots, taken_slots, token, with_new}
 use Rattle.cjc_vtable.proofs.Calls.{token-some}
 use Rattle.cjc_vtable.proofs.Given.{taken-has, with_new-slot}

@@ -100,7 +100,7 @@ module _ (p : GroupMember) (one : IsWholeMember p) where
   abbrev tested : Class → Member → subset.ResolvedMember
   tested d m = record { owner = d; flags = m.flags }
 
-  tested_method : (d : Class) (place : ℕ) (m : Member) → class_at v d.is_imported d.number ≡ Some d
+  pub tested_method : (d : Class) (place : ℕ) (m : Member) → class_at v d.is_imported d.number ≡ Some d
       → slice_get d.methods place ≡ Some m → subset.hit v false (Some (member_at d (length d.fields + place)))
       ≡ Some (tested d m)
   unfolding subset.hit
