@@ -1,0 +1,4 @@
+pub mod Written
+pub mod Fair
+pub mod Members
+pub mod Ready
