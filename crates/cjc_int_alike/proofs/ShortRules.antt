@@ -44,12 +44,12 @@ use Rattle.cjc_int_alike.proofs.ShortReturns.{return_at}
 -- ---- calls and returns
 
 -- what an instruction does to the frame
-data Leaves : JOp → Type 0 where
+pub data Leaves : JOp → Type 0 where
   stays : {op : JOp} → leaves_frame op ≡ false → Leaves op
   it_calls : {op : ℕ} {id : MemberId} → Leaves (jop.Call op id)
   it_returns : {opcode : ℕ} → Leaves (jop.Return opcode)
 
-which : (op : JOp) → Leaves op
+pub which : (op : JOp) → Leaves op
 which jop.Nop = stays refl
 which jop.Null = stays refl
 which (jop.Number z) = stays refl
@@ -78,12 +78,12 @@ which (jop.CheckCast name) = stays refl
 which (jop.InstanceOf name) = stays refl
 
 -- a call or a return is in no pair
-record IsOutside (before : Open) (role : PairRole) (after : Open) : Type 0 where
+pub record IsOutside (before : Open) (role : PairRole) (after : Open) : Type 0 where
   pub before_it : before ≡ closed
   pub alone : role ≡ Alone
   pub behind_it : after ≡ closed
 
-outside : {r : Resolution} {o p : Open} {op : JOp} {role : PairRole} → IsInPair r o op role p → leaves_frame op ≡ true
+pub outside : {r : Resolution} {o p : Open} {op : JOp} {role : PairRole} → IsInPair r o op role p → leaves_frame op ≡ true
     → IsOutside o role p
 outside stands_alone e = record { before_it = refl; alone = refl; behind_it = refl }
 outside opens e = absurd cc

@@ -56,11 +56,11 @@ use Rattle.cjc_world.specs.Lookup.{object}
 use Rattle.cjc_world.specs.Subtype.{is_subtype}
 
 -- 301 of a method that may have int
-usable_method : (desc : List ℕ) → IsUsable true desc → IsIntDesc desc
+pub usable_method : (desc : List ℕ) → IsUsable true desc → IsIntDesc desc
 usable_method desc d = int_desc desc d.types d.short d.is_desc d.of_method d.supported
 
 -- 301 of a field that may be int
-usable_field : (desc : List ℕ) → IsUsable false desc → IsFieldDesc desc
+pub usable_field : (desc : List ℕ) → IsUsable false desc → IsFieldDesc desc
 usable_field desc d = record {
   is_desc = parts_are desc d.types d.short d.is_desc;
   some_value = of_values (field_sort desc) (value_field desc d.types d.short d.is_desc d.of_method d.supported);

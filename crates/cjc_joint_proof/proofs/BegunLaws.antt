@@ -171,7 +171,7 @@ module _ (packages : List Package) (begun : AreBegun packages) (apart : AreApart
       by None at f = cc
       by (Some p) at f = let same : p.image ≡ i = cc in record { package_there = p; is = at; image = same }
 
-  own_fields : TellOwnFields (all_files packages) (all_images packages)
+  pub own_fields : TellOwnFields (all_files packages) (all_images packages)
   own_fields = record {
     arrays = λ q k i a is at. (let r = of_image q i is in
         let p = r.package_there in

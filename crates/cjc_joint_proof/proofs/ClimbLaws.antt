@@ -191,7 +191,7 @@ module _ (packages : List Package) (linked : AreLinked packages) (leads : (q : �
     has_no_other = no_other (group_of packages) q (member_of p) (member_at packages q p here) (leads q p here)
 
     -- a class that the package names is in the group the class of that name
-    class_is_in : (x : List ℕ) (c : Class) → class_named (world p) x ≡ Some c
+    pub class_is_in : (x : List ℕ) (c : Class) → class_named (world p) x ≡ Some c
         → class_in l q (class_at p x) ≡ Some (class_together packages x)
     class_is_in x c e =
         let s = sound_at packages linked q p here in
@@ -518,6 +518,25 @@ goes_on packages linked leads facts q p here x c known plain mine =
           f.are_supertypes f.one_supertypes (naming p) (method_offset p) f.low (says_kinds v.list p v.sound) s.height x
           s.foot s.tower low);
     }
+
+-- how high a class stands in the group, and that a look-up over superclasses goes on so far
+pub record StandsLow (packages : List Package) (x : List ℕ) : Type 0 where
+  pub height : ℕ
+  pub low : height ≤ depth (group_loaded (group_of packages))
+  pub stands : Stands (group_loaded (group_of packages)) height (class_together packages x)
+
+pub climbs_low : (packages : List Package) → AreLinked packages → ((q : ℕ) (p : Package) → slice_get packages q ≡ Some p
+    → AllLead (group_of packages) (member_of p)) → (facts : (q : ℕ) (p : Package) → slice_get packages q ≡ Some p
+    → Facts p) → (q : ℕ) (p : Package) → slice_get packages q ≡ Some p → (x : List ℕ) (c : Class)
+    → class_named (world p) x ≡ Some c → is_interface c.flags ≡ false → StandsLow packages x
+climbs_low packages linked leads facts q p here x c known plain =
+    let k = all_climb packages linked leads (λ r e there. stand_up e (facts r e there)) (suc q) q (omega arith) p here x
+    c known plain in
+    let l = group_loaded (group_of packages) in
+    let all = before_all l.parts (suc q) in
+    let is : depth l ≡ 1 + info_count l.parts = refl in
+    let low = k.low in
+    record { height = k.height; low = omega (arith, low, all, is); stands = k.stands }
 
 pub superclass_stands : (packages : List Package) → AreLinked packages → ((q : ℕ) (p : Package)
     → slice_get packages q ≡ Some p → AllLead (group_of packages) (member_of p)) → (facts : (q : ℕ) (p : Package)

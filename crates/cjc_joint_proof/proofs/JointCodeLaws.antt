@@ -74,44 +74,48 @@ no_methods = record { reached = λ m o. Nowhere; called = λ id. None; sent = λ
 none_agree : (l : Named) → MethodsAgree (without_calls l) no_methods
 none_agree l = record { reached = λ m o. refl; called = λ id. refl; sent = λ kind id. refl }
 
-module _ (l : Named) (labels : JointCalls NMethod) (places : JointCalls Placed)
-    (agree : JointMethodsAgree labels places) where
-  fetch_stays : (p : InPackage Placed) (at : ℕ) (i : Fetched Name MemberId MemberId (InPackage ByLabel.Callee))
-      → (let m = p.item in option_map (fetched_in p.part) (ByLabel.fetch m.method at) ≡ Some i)
-      → (let m = p.item in option_map (fetched_in p.part) (ByLabel.fetch m.method at)) ≡ Some (record {
+-- ---- what is fetched
+
+-- an instruction of a package's method stays, and all that it names is known
+module _ (q : ℕ) (m : NMethod) (at : ℕ) (i : Fetched Name MemberId MemberId (InPackage ByLabel.Callee)) where
+  pub fetch_stays : option_map (fetched_in q) (ByLabel.fetch m at) ≡ Some i
+      → option_map (fetched_in q) (ByLabel.fetch m at) ≡ Some (record {
         operation = operation_as (λ c. c) (λ f. f) (λ f. f) (λ m. m) (λ label. label) i.operation;
         next = i.next;
       })
-  fetch_stays p at i e = by (let m = p.item in ByLabel.fetch m.method at) e
+  fetch_stays e = by (ByLabel.fetch m at) e
     where
-      by : (o : Option (Fetched Name MemberId MemberId ByLabel.Callee)) → option_map (fetched_in p.part) o ≡ Some i
-          → option_map (fetched_in p.part) o ≡ Some (record {
+      by : (o : Option (Fetched Name MemberId MemberId ByLabel.Callee)) → option_map (fetched_in q) o ≡ Some i
+          → option_map (fetched_in q) o ≡ Some (record {
             operation = operation_as (λ c. c) (λ f. f) (λ f. f) (λ m. m) (λ label. label) i.operation;
             next = i.next;
           })
       by None e = cc
       by (Some k) e =
-          let same : fetched_in p.part k ≡ i = cc in
+          let same : fetched_in q k ≡ i = cc in
           ap (λ x. Some (record { operation = x; next = k.next })) (sym (operation_twice (λ c. c) (λ f. f) (λ s. s)
-          (of_package p.part) (λ m. m) (λ label. label) k.operation))
+          (of_package q) (λ m. m) (λ label. label) k.operation))
           ∙ ap (λ x. Some (record {
             operation = operation_as (λ c. c) (λ f. f) (λ f. f) (λ m. m) (λ label. label) x.operation;
             next = x.next;
           })) same
 
-  fetch_is_known : (p : InPackage Placed) (at : ℕ) (i : Fetched Name MemberId MemberId (InPackage ByLabel.Callee))
-      → (let m = p.item in option_map (fetched_in p.part) (ByLabel.fetch m.method at) ≡ Some i)
+  pub fetch_is_known : option_map (fetched_in q) (ByLabel.fetch m at) ≡ Some i
       → KnownOperation (known_by everything) AnyCall i.operation
-  fetch_is_known p at i e = by (let m = p.item in ByLabel.fetch m.method at) e
+  fetch_is_known e = by (ByLabel.fetch m at) e
     where
-      by : (o : Option (Fetched Name MemberId MemberId ByLabel.Callee)) → option_map (fetched_in p.part) o ≡ Some i
+      by : (o : Option (Fetched Name MemberId MemberId ByLabel.Callee)) → option_map (fetched_in q) o ≡ Some i
           → KnownOperation (known_by everything) AnyCall i.operation
       by None e = cc
       by (Some k) e =
-          let same : fetched_in p.part k ≡ i = cc in
+          let same : fetched_in q k ≡ i = cc in
           subst (λ x. KnownOperation (known_by everything) AnyCall x.operation) same (known_in (known_by everything)
-          AnyCall p.part k.operation (operation_known k.operation))
+          AnyCall q k.operation (operation_known k.operation))
 
+-- ---- code by label and by place
+
+module _ (l : Named) (labels : JointCalls NMethod) (places : JointCalls Placed)
+    (agree : JointMethodsAgree labels places) where
   reached_stays : (m : InPackage ByLabel.Callee) (o : Option (Shape Name)) (r : Reached (InPackage Placed))
       → places.reached m o ≡ r
       → labels.reached m (option_as (shape_as (λ c. c)) o) ≡ reached_as method_alone (λ p label. label) r
@@ -126,8 +130,8 @@ module _ (l : Named) (labels : JointCalls NMethod) (places : JointCalls Placed)
       record {
         classes = one.classes;
         room = λ p is. refl;
-        fetch = λ p at i is e. fetch_stays p at i e;
-        fetch_known = λ p at i is e. fetch_is_known p at i e;
+        fetch = λ p at i is e. (let m = p.item in fetch_stays p.part m.method at i e);
+        fetch_known = λ p at i is e. (let m = p.item in fetch_is_known p.part m.method at i e);
         handler = λ p at kind is thing. one.handler p.item at kind tt (record {
           thing = thing.thing;
           is_known = thing.is_known;

@@ -339,7 +339,7 @@ module _ (packages : List Package) (linked : AreLinked packages) where
         down_outside b e = down_in_file w n object_is x c o.file (let v = o.entry in v.token) o.entry o.on_card o.there
             supers_same interfaces_same named_outside b known e
 
-      says_steps : SaysSteps w n
+      pub says_steps : SaysSteps w n
       says_steps = record {
         object_there = let k = object_known in known_together packages linked 0 first here object k.0 k.1;
         object_class = object_is;

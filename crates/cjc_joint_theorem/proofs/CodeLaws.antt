@@ -40,7 +40,7 @@ with_all tree nargs widest code from catches = record {
 
 module _ (q : ℕ) where
   -- either of two instructions
-  chosen : (b : Bool) (x y x' y' : NInsn) → x' ≡ insn_by q x → y' ≡ insn_by q y → (if b then x' else y')
+  pub chosen : (b : Bool) (x y x' y' : NInsn) → x' ≡ insn_by q x → y' ≡ insn_by q y → (if b then x' else y')
       ≡ insn_by q (if b then x else y)
   chosen true x y x' y' e f = e
   chosen false x y x' y' e f = f
@@ -55,7 +55,7 @@ module _ (q : ℕ) where
   pushed_by : (z : ℤ) → pushed z ≡ map (insn_by q) (pushed z)
   pushed_by z = one _ _ (word_by (low_word z))
 
-  local_by : (short long l : ℕ) → local short long l ≡ map (insn_by q) (local short long l)
+  pub local_by : (short long l : ℕ) → local short long l ≡ map (insn_by q) (local short long l)
   local_by short long l = one _ _ (chosen (nat_le l 3) _ _ _ _ refl refl)
 
   stack_by : (op : ℕ) → on_stack op ≡ insn_by q (on_stack op)
@@ -73,7 +73,7 @@ module _ (q : ℕ) where
   switch_by op other low [] = refl
   switch_by op other low (c ∷ cases) = refl
 
-  test_by : (op : ℕ) (o : Option (Shape (List ℕ))) → type_test op o ≡ map (insn_by q) (type_test op o)
+  pub test_by : (op : ℕ) (o : Option (Shape (List ℕ))) → type_test op o ≡ map (insn_by q) (type_test op o)
   test_by op None = refl
   test_by op (Some (OfClass class)) = refl
   test_by op (Some (OfReferences class)) = refl
@@ -88,7 +88,7 @@ module _ (q : ℕ) where
     static_told put f (Some z) = pushed_by z
     static_told put f None = refl
 
-    call_told : (op : ℕ) (m : MemberId) → call_by (resolved_by q r) op m ≡ map (insn_by q) (call_by r op m)
+    pub call_told : (op : ℕ) (m : MemberId) → call_by (resolved_by q r) op m ≡ map (insn_by q) (call_by r op m)
     call_told op m = one _ _ (chosen (op == jvm.invokeinterface) _ _ _ _ refl (chosen (op == jvm.invokevirtual) _ _ _
         _ refl
         (chosen (op == jvm.invokespecial) _ _ _ _ refl refl)))

@@ -8,6 +8,7 @@ pub mod WrittenSends
 pub use Rattle.cjc_bytes.proofs.Gets as BytesGets
 pub use Rattle.cjc_bytes.proofs.Lists as BytesLists
 pub use Rattle.cjc_bytes.proofs.Numbers as BytesNumbers
+pub use Rattle.cjc_card_semantics.proofs.MachineLaws.Upwards as CardUpwards
 pub use Rattle.cjc_vtable.proofs.Filed as VTableFiled
 pub use Rattle.cjc_vtable.proofs.Numbers as VTableNumbers
 pub use Rattle.cjc_ncode.proofs.LoweringLaws.Fetching as NCodeFetching

@@ -28,6 +28,10 @@ IsRefused list files r = whole.IsRefused list files r
 abbrev pub ExportsAreFair : List ExportTree → Type 0
 ExportsAreFair exports = fair.ExportsAreFair exports
 
+-- No method of these files that is written is in int mode.
+abbrev pub NoneInIntMode : ListTree → Files → Type 0
+NoneInIntMode list files = alike.NoneInIntMode list files
+
 -- The class files of a list over its export files, run by name, and these components, run by token, behave alike.
 abbrev pub BehaveAlike : ListTree → Files → CapTree → Type 0
 BehaveAlike list files cap = alike.BehaveAlike list files cap

@@ -139,7 +139,7 @@ module _ (members : List Member) (by : ℕ → Method → Bool) (is : AreMembers
         (specials_do (all_classes p.files) (joint_world group) (body_in p.files m) (let t = p.tables in t.types m)
         specials)) place rule breach))
 
-    tables_here : HasTables p.files p.tables m → HasTablesIn group homes tables m
+    pub tables_here : HasTables p.files p.tables m → HasTablesIn group homes tables m
     tables_here has =
         let here : HasTables p.files tables m = retabled p.files p.tables tables m (ap (λ o. types_by o m) at)
         (ap (λ o. ranges_by o m) at) has in
@@ -152,7 +152,7 @@ module _ (members : List Member) (by : ℕ → Method → Bool) (is : AreMembers
           unbroken = unbroken_here (is.specials (number_of members m) p at m has) (let s = whole.sound in s.unbroken);
         }
 
-    int_tables_here : HasIntTables p.files p.tables m → HasIntTablesIn group homes tables m
+    pub int_tables_here : HasIntTables p.files p.tables m → HasIntTablesIn group homes tables m
     int_tables_here has =
         let here : HasIntTables p.files tables m = retabled_int p.files p.tables tables m (ap (λ o. types_by o m) at)
         (ap (λ o. ranges_by o m) at) has in

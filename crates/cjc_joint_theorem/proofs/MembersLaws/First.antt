@@ -31,18 +31,18 @@ use Rattle.cjc_joint_theorem.proofs.MembersLaws.Worlds.{are_apart, supers_stay, 
 
 -- ---- lists
 
-both_all : {A : Type 0} (P : A → Type 0) (xs ys : List A) → AllByRecursion P xs → AllByRecursion P ys
+pub both_all : {A : Type 0} (P : A → Type 0) (xs ys : List A) → AllByRecursion P xs → AllByRecursion P ys
     → AllByRecursion P (xs ++ ys)
 both_all P [] ys h g = g
 both_all P (x ∷ xs) ys h g = (h.0, both_all P xs ys h.1 g)
 
-both_fit : (l : Named) (heap : Heap) (xs ys : List (Slot MemberId)) → SlotsFit l heap xs → SlotsFit l heap ys
+pub both_fit : (l : Named) (heap : Heap) (xs ys : List (Slot MemberId)) → SlotsFit l heap xs → SlotsFit l heap ys
     → SlotsFit l heap (xs ++ ys)
 both_fit l heap _ ys no_slots g = g
 both_fit l heap _ ys (slot {slots = xs} one h) g = slot one (both_fit l heap xs ys h g)
 
 -- an array of an image among those of all
-array_at : (images : List StaticImage) (q k : ℕ) (i : StaticImage) (a : ArrayCell) → slice_get images q ≡ Some i
+pub array_at : (images : List StaticImage) (q k : ℕ) (i : StaticImage) (a : ArrayCell) → slice_get images q ≡ Some i
     → slice_get i.arrays k ≡ Some a
     → slice_get (flat_map (λ (i : StaticImage). i.arrays) images) (arrays_before images q + k) ≡ Some a
 array_at [] q k i a is at = cc
@@ -74,7 +74,7 @@ module _ (small large : Named) (one all : Heap) (before : ℕ)
   cell_fits _ _ (an_object {kind = kind} {k = k} thing at is) = an_object thing (keeps k thing at) (is_of (shape thing)
       kind is)
 
-  cells_fit : (xs : List FieldValue) → SlotsFit small one (map first_cell xs)
+  pub cells_fit : (xs : List FieldValue) → SlotsFit small one (map first_cell xs)
       → SlotsFit large all (map first_cell (map (cell_behind before) xs))
   cells_fit [] h = no_slots
   cells_fit (x ∷ xs) (slot one_fits h) = slot (cell_fits (field_sort (let f = x.field in f.desc)) x.value one_fits)

@@ -24,7 +24,7 @@ use Rattle.cjc_joint_theorem.proofs.RuleLaws.{breach_stays, specials_do}
 use Rattle.cjc_joint_theorem.proofs.MembersLaws.Worlds.{are_apart, supers_stay, files_at}
 
 -- tables that say the same of a method
-retabled : (files : Files) (one other : Tables) (m : Method) → other.types m ≡ one.types m → other.ranges m
+pub retabled : (files : Files) (one other : Tables) (m : Method) → other.types m ≡ one.types m → other.ranges m
     ≡ one.ranges m → HasTables files one m → HasTables files other m
 retabled files one other m types ranges h = record {
   code = h.code;

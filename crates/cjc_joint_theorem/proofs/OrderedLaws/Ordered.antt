@@ -34,7 +34,7 @@ same_class : {c d : Class} → Some c ≡ Some d → c ≡ d
 same_class e = cc
 
 -- 203: each name of a list is there
-listed_there : (w : List Class) (xs : List (List ℕ)) (y : List ℕ) → list_any (λ x. is_missing w x) xs ≡ false
+pub listed_there : (w : List Class) (xs : List (List ℕ)) (y : List ℕ) → list_any (λ x. is_missing w x) xs ≡ false
     → Lists y xs → (d : Class) × (class_named w y ≡ Some d)
 listed_there w (x ∷ xs) _ e foremost = by (class_named w x) refl e
   where
@@ -87,7 +87,7 @@ module _ (group : List Files) (is : AreOrdered group) where
         listed_there (all_classes p) (t.superclass ∷ []) s (front_missing (list_any (λ x. is_missing (all_classes p) x)
         (t.superclass ∷ [])) (list_any (λ x. is_missing (all_classes p) x) t.interfaces) (kept.there refl)).0 l
 
-    interface_there : (i : List ℕ) → Lists i t.interfaces → (d : Class) × (class_named (all_classes p) i ≡ Some d)
+    pub interface_there : (i : List ℕ) → Lists i t.interfaces → (d : Class) × (class_named (all_classes p) i ≡ Some d)
     unfolding lists_missing
     interface_there i l =
         let sound = is.sound.each q p own.member in

@@ -91,7 +91,7 @@ first_in own (c ∷ cs) f e = by (own c) refl e (first_in own cs f)
 
 -- ---- what a class declares
 
-declared_at : (ms : List Member) (s : Signature) → is_among (signatures (λ m. true) ms) s ≡ true → (k : ℕ)
+pub declared_at : (ms : List Member) (s : Signature) → is_among (signatures (λ m. true) ms) s ≡ true → (k : ℕ)
     × (m : Member) × (slice_get ms k ≡ Some m) × (signature_of m ≡ s)
 declared_at [] s e = cc
 declared_at (m ∷ ms) s e = by (same (signature_of m) s) refl e (declared_at ms s)

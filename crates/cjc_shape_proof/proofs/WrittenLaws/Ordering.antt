@@ -107,8 +107,8 @@ bare_ordered files near x =
     in ap (λ kept. overtaking [] (catches_at (place_in r kept) x.catches)) (none_reached x.insns)
     ∙ ap (overtaking []) (none_caught (place_in r []) (λ at. refl) x.catches)
 
-laid_ordered : (files : Files) (near : List MemberId) (ms : List LaidMethod) (x : Method) → ((k : ℕ) (m : LaidMethod)
-    → slice_get ms k ≡ Some m → IsOrdered m.code) → IsOrdered (laid_from files near ms x)
+pub laid_ordered : (files : Files) (near : List MemberId) (ms : List LaidMethod) (x : Method)
+    → ((k : ℕ) (m : LaidMethod) → slice_get ms k ≡ Some m → IsOrdered m.code) → IsOrdered (laid_from files near ms x)
 laid_ordered files near [] x all = bare_ordered files near x
 laid_ordered files near (m ∷ ms) x all = by (is_method_of x.id (method_at files m.member)) (laid_ordered files near ms x
     (λ k y e. all (suc k) y e))
@@ -140,7 +140,7 @@ module _ (files : Files) (image : StaticImage) (before after : Method → NMetho
   abbrev w : List Class
   w = all_classes files
 
-  start_sorted : (m : Method) → start_of after m ≡ start_as in_table_order (λ m label. label) (start_of before m)
+  pub start_sorted : (m : Method) → start_of after m ≡ start_as in_table_order (λ m label. label) (start_of before m)
   start_sorted m = ap (λ (n : NMethod). record {
     code = n;
     at = 0;
@@ -200,7 +200,7 @@ module _ (files : Files) (image : StaticImage) (before after : Method → NMetho
   abbrev l' : Named
   l' = named_by files image w after
 
-  classes_alike : AreAlike (known_by everything) (λ c. c) (λ f. f) (λ c slots. slots) (λ f. f) (λ x. x) (classes l)
+  pub classes_alike : AreAlike (known_by everything) (λ c. c) (λ f. f) (λ c slots. slots) (λ f. f) (λ x. x) (classes l)
       (classes l')
   classes_alike = record {
     is_of = λ a b known_a known_b. ap (λ x. l.is_of x (shape_as (λ c. c) b)) (shape_stays a)
@@ -215,7 +215,7 @@ module _ (files : Files) (image : StaticImage) (before after : Method → NMetho
     put_known = λ letter s v x y fits known_cell known_statics there. refl;
   }
 
-  handler_sorted : (m : NMethod) (at : ℕ) (kind : Shape (List ℕ)) → IsOrdered m
+  pub handler_sorted : (m : NMethod) (at : ℕ) (kind : Shape (List ℕ)) → IsOrdered m
       → handler l' (table_order m.catches) at (shape_as (λ c. c) kind) ≡ option_as (λ label. label)
       (handler l m.catches at kind)
   handler_sorted m at kind ordered = ap (handler l' (table_order m.catches) at) (shape_stays kind)
@@ -257,7 +257,7 @@ module _ (files : Files) (image : StaticImage) (before after : Method → NMetho
     cells = λ x is_known. refl;
   }
 
-  arrays_known : (arrays : List ArrayCell) → KnownHeap (known_by everything) (map narrow.first_array arrays)
+  pub arrays_known : (arrays : List ArrayCell) → KnownHeap (known_by everything) (map narrow.first_array arrays)
   arrays_known [] = no_things
   arrays_known (a ∷ arrays) = one_thing numbers_known (arrays_known arrays)
 

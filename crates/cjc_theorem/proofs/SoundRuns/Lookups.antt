@@ -3,7 +3,8 @@ use Rattle.std.proofs.Common.{◌≡◌, ℕ, refl, ap, ◌∙◌, Bool, true, f
 use Rattle.std.specs.Prelude.{◌&&◌, Option, Some, None, option_and_then, option_map, if◌then◌else◌}
 use Rattle.cjc_token_proof.specs.CardSemantics.Bytecode.Machine.{Nowhere, Within}
 use Rattle.cjc_jvm_semantics.specs.Linked.{Abroad, Callee, Inside, Method}
-use Rattle.cjc_jvm_semantics.specs.OnePackage.{ResolvedMember, callee_at, entry_in, entry_named, first_imported}
+use Rattle.cjc_jvm_semantics.specs.OnePackage.{ResolvedMember, Selection, callee_at, entry_in, entry_named}
+use Rattle.cjc_jvm_semantics.specs.OnePackage.{first_imported}
 use Rattle.cjc_jvm_semantics.specs.OnePackage.{first_super, interface_callee, is_initialiser, is_sendable, made_of}
 use Rattle.cjc_jvm_semantics.specs.OnePackage.{method_at, method_hit, of_class, select_in, selected_from, sent_by}
 use Rattle.cjc_jvm_semantics.specs.OnePackage.{sent_named}
@@ -31,17 +32,18 @@ module _ (files : Files) where
   w = all_classes files
 
   -- A method of a class file.
-  abbrev IsOwn : Method → Type 0
+  abbrev pub IsOwn : Method → Type 0
   IsOwn m = (f : Found) × (method_at files f ≡ Some m)
 
   -- what is found is one, if it is no imported one
-  abbrev FindsOwn : Option Callee → Type 0
+  abbrev pub FindsOwn : Option Callee → Type 0
   FindsOwn o = (m : Method) → o ≡ Some (Inside m) → IsOwn m
 
-  abbrev IsOwnOne : Option Method → Type 0
+  -- what is named is one
+  abbrev pub IsOwnOne : Option Method → Type 0
   IsOwnOne o = (m : Method) → o ≡ Some m → IsOwn m
 
-  finds_after : {A : Type 0} (g : A → Option Callee) → ((a : A) → FindsOwn (g a)) → (o : Option A)
+  pub finds_after : {A : Type 0} (g : A → Option Callee) → ((a : A) → FindsOwn (g a)) → (o : Option A)
       → FindsOwn (option_and_then g o)
   finds_after g each None m e = absurd cc
   finds_after g each (Some a) m e = each a m e
@@ -51,7 +53,7 @@ module _ (files : Files) where
   own_after g each None m e = absurd cc
   own_after g each (Some a) m e = each a m e
 
-  callee_own : (event : List ℕ) (id : MemberId) (f : Found) → FindsOwn (callee_at files event id f)
+  pub callee_own : (event : List ℕ) (id : MemberId) (f : Found) → FindsOwn (callee_at files event id f)
   callee_own event id f m e = by f.imported (method_at files f) refl e
     where
       by : (b : Bool) (o : Option Method) → method_at files f ≡ o → (if b then Some (Abroad (of_class event id))
@@ -64,29 +66,31 @@ module _ (files : Files) where
   direct_own id = finds_after (λ f. callee_at files id.class id f) (λ f. callee_own id.class id f)
       (find_method w id.class id.name id.desc)
 
-  selected_own : (type : List ℕ) (id : MemberId) → FindsOwn (selected_from files w (select_in w) type id)
-  selected_own type id = finds_after (λ f. callee_at files (first_imported (line w (receiver type))) id f)
-      (λ f. callee_own (first_imported (line w (receiver type))) id f) (select_in w type id)
+  -- however methods are selected
+  pub selected_own : (select : Selection) (type : List ℕ) (id : MemberId)
+      → FindsOwn (selected_from files w select type id)
+  selected_own select type id = finds_after (λ f. callee_at files (first_imported (line w (receiver type))) id f)
+      (λ f. callee_own (first_imported (line w (receiver type))) id f) (select type id)
 
   above_own : (id : MemberId) → FindsOwn (above files w id)
-  above_own id = finds_after (λ super. selected_from files w (select_in w) super id) (λ super. selected_own super id)
-      (first_super (class_named w id.class))
+  above_own id = finds_after (λ super. selected_from files w (select_in w) super id)
+      (λ super. selected_own (select_in w) super id) (first_super (class_named w id.class))
 
-  interface_own : (interface type : List ℕ) (id : MemberId) (o : Option Class)
-      → FindsOwn (interface_callee files w (select_in w) interface type id o)
-  interface_own interface type id None m e = absurd cc
-  interface_own interface type id (Some c) m e = by c.is_imported e
+  pub interface_own : (select : Selection) (interface type : List ℕ) (id : MemberId) (o : Option Class)
+      → FindsOwn (interface_callee files w select interface type id o)
+  interface_own select interface type id None m e = absurd cc
+  interface_own select interface type id (Some c) m e = by c.is_imported e
     where
-      by : (b : Bool) → (if b then Some (Abroad (of_class interface id)) else selected_from files w (select_in w) type
-          id) ≡ Some (Inside m) → IsOwn m
+      by : (b : Bool) → (if b then Some (Abroad (of_class interface id)) else selected_from files w select type id)
+          ≡ Some (Inside m) → IsOwn m
       by true e = absurd cc
-      by false e = selected_own type id m e
+      by false e = selected_own select type id m e
 
   on_own : (callee : labels.Callee) (type : List ℕ) → FindsOwn (selected_on files w callee type)
   on_own (Fixed on id) type = direct_own id
-  on_own (OnObject id) type = selected_own type id
+  on_own (OnObject id) type = selected_own (select_in w) type id
   on_own (OnSuper id) type = above_own id
-  on_own (OnInterface n id) type = interface_own id.class type id (class_named w (receiver type))
+  on_own (OnInterface n id) type = interface_own (select_in w) id.class type id (class_named w (receiver type))
 
   class_own : (callee : labels.Callee) → FindsOwn (on_class files w callee)
   class_own (Fixed false id) = direct_own id
@@ -95,7 +99,7 @@ module _ (files : Files) where
   class_own (OnSuper id) = λ m e. absurd cc
   class_own (OnInterface n id) = λ m e. absurd cc
 
-  entry_own : (id : MemberId) → IsOwnOne (entry_named files w id)
+  pub entry_own : (id : MemberId) → IsOwnOne (entry_named files w id)
   entry_own id m e = go (is_initialiser id.name) e
     where
       found : (f : Found) (hit : ResolvedMember) (b : Bool) → (if b then method_at files f else None) ≡ Some m → IsOwn m
@@ -121,29 +125,33 @@ module _ (files : Files) where
       go true e = absurd cc
       go false e = classes (class_named w id.class) e
 
-  sent_own : (type : List ℕ) (id : MemberId) → IsOwnOne (sent_named files w type id)
-  sent_own type id m e = places (find_method w id.class id.name id.desc) e
+  pub sent_own : (select : ResolvedMember → Selection) (type : List ℕ) (id : MemberId)
+      → IsOwnOne (option_and_then (λ f. option_and_then (λ hit. sent_by files w (select hit) type id hit)
+      (method_hit w f)) (find_method w id.class id.name id.desc))
+  sent_own select type id m e = places (find_method w id.class id.name id.desc) e
     where
       chosen : (o : Option Found) → option_and_then (method_at files) o ≡ Some m → IsOwn m
       chosen None e = absurd cc
       chosen (Some f) e = (f, e)
 
-      go : (b : Bool) → (if b then option_and_then (method_at files) (select_in w type id) else None) ≡ Some m → IsOwn m
-      go true e = chosen (select_in w type id) e
-      go false e = absurd cc
+      go : (hit : ResolvedMember) (b : Bool) → (if b then option_and_then (method_at files) (select hit type id)
+          else None) ≡ Some m → IsOwn m
+      go hit true e = chosen (select hit type id) e
+      go hit false e = absurd cc
 
-      hits : (o : Option ResolvedMember) → option_and_then (sent_by files w (select_in w) type id) o ≡ Some m → IsOwn m
+      hits : (o : Option ResolvedMember) → option_and_then (λ hit. sent_by files w (select hit) type id hit) o ≡ Some m
+          → IsOwn m
       hits None e = absurd cc
-      hits (Some hit) e = go (is_sendable id hit && is_subtype w type id.class) e
+      hits (Some hit) e = go hit (is_sendable id hit && is_subtype w type id.class) e
 
-      places : (o : Option Found) → option_and_then (λ f. option_and_then (sent_by files w (select_in w) type id)
-          (method_hit w f)) o ≡ Some m → IsOwn m
+      places : (o : Option Found) → option_and_then (λ f. option_and_then (λ hit. sent_by files w (select hit) type id
+          hit) (method_hit w f)) o ≡ Some m → IsOwn m
       places None e = absurd cc
       places (Some f) e = hits (method_hit w f) e
 
   module _ (image : StaticImage) (one other : Method → NMethod) (alike : (f : Found) (m : Method)
       → method_at files f ≡ Some m → one m ≡ other m) where
-    same_start : (m : Method) → IsOwn m → start_of one m ≡ start_of other m
+    pub same_start : (m : Method) → IsOwn m → start_of one m ≡ start_of other m
     same_start m own = ap (λ (n : NMethod). record {
       code = n;
       at = 0;
@@ -181,6 +189,7 @@ module _ (files : Files) where
       imported = plain_import w;
       throwable = throwable_import w;
       called = λ id. same_starts (entry_named files w id) (entry_own id) i;
-      sent = λ kind id. same_starts (sent_named files w (shape_name kind) id) (sent_own (shape_name kind) id) i;
+      sent = λ kind id. same_starts (sent_named files w (shape_name kind) id)
+          (sent_own (λ hit. select_in w) (shape_name kind) id) i;
       memory = first_memory files image;
     }

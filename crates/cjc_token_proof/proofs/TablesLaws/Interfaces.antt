@@ -84,7 +84,7 @@ module _ (w : List Class) where
       (has-either i (A ++ B ++ C) (gathered listed next) h)
 
   -- each listed one is gathered
-  gathered_has : (xs : List (List ℕ)) (k : Supertypes) → AreSupertypes w xs k → (y : List ℕ) → Lists y xs
+  pub gathered_has : (xs : List (List ℕ)) (k : Supertypes) → AreSupertypes w xs k → (y : List ℕ) → Lists y xs
       → Has (record { name = y; class = class_named w y }) (gathered true k)
   unfolding gathered
   gathered_has xs k ends y l = elim l [ ]
@@ -135,7 +135,7 @@ among_more (h ∷ seen) j name e f = by (bytes_eq h.name name) e (among_more see
     by true g rest = cc
     by false g rest = rest g f
 
-once_has : (seen is : List Interface) (i : Interface) → Has i is → is_among seen i.name ≡ false → (j : Interface)
+pub once_has : (seen is : List Interface) (i : Interface) → Has i is → is_among seen i.name ≡ false → (j : Interface)
     × Has j (each_once seen is) × (j.name ≡ i.name)
 once_has seen [] i h e = elim h [ ]
 once_has seen (i ∷ is) i' at_front e =

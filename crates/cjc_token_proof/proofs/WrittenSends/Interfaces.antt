@@ -74,7 +74,7 @@ pub position_is : (ss : List Signature) (s : Signature) (k : ℕ) → position (
 position_is ss s k e = let r = position_has (λ t. same t s) ss k s e in r.1 ∙ ap Some (same-true r.0 s r.2)
 
 -- and one that stands there has a position
-has_position : (ss : List Signature) (s : Signature) → has ss s ≡ true → (k : ℕ)
+pub has_position : (ss : List Signature) (s : Signature) → has ss s ≡ true → (k : ℕ)
     × (position (λ t. same t s) ss ≡ Some k)
 has_position [] s e = absurd (cc)
 has_position (t ∷ ss) s e = by (same t s) refl e (has_position ss s)
@@ -157,7 +157,7 @@ without_in (x ∷ ms) m h = by (bytes_eq x.name (codes "<clinit>")) h (without_i
     by true i rest = later (rest i)
     by false i rest = in_either m x (without_initialiser ms) ms i rest
 
-own_in : (c : Class) (m : Member) → In m (own_methods c) → In m c.methods
+pub own_in : (c : Class) (m : Member) → In m (own_methods c) → In m c.methods
 unfolding own_methods
 own_in c m h = by c.is_imported (without_in (if c.is_imported then by_token (length c.methods) 0 c.methods
     else c.methods) m h)
@@ -166,7 +166,7 @@ own_in c m h = by c.is_imported (without_in (if c.is_imported then by_token (len
     by true i = by_token-in (length c.methods) 0 c.methods m i
     by false i = i
 
-in_place : (m : Member) (ms : List Member) → In m ms → (k : ℕ) × (slice_get ms k ≡ Some m)
+pub in_place : (m : Member) (ms : List Member) → In m ms → (k : ℕ) × (slice_get ms k ≡ Some m)
 in_place m ms (first_of {ms = ns}) = (0, refl)
 in_place m ms (later {ms = ns} i) = let r = in_place m ns i in (suc r.0, r.1)
 
@@ -191,7 +191,7 @@ listed_any (m ∷ ms) y id = ap (λ o. if bytes_eq m.name id.name && bytes_eq m.
     then Some (if Rattle.cjc_world.specs.ExportFile.Supers.is_virtual m then Some m.token else None) else o)
     (listed_any ms y id)
 
-token_any : (l : Loaded) (k : card.Class) (y : List ℕ) (id : MemberId) → interface_token l k (of_class y id)
+pub token_any : (l : Loaded) (k : card.Class) (y : List ℕ) (id : MemberId) → interface_token l k (of_class y id)
     ≡ interface_token l k id
 token_any l (card.Own part offset) y id = by (card.names_of l part offset)
   where

@@ -23,8 +23,9 @@ use Rattle.cjc_world.specs.ExportFile.Supers as exports
 use Rattle.cjc_tokens.specs.Members.{chosen, is_initialiser, is_virtual}
 use Rattle.cjc_vtable.specs.Calls.{any_method}
 use Rattle.cjc_world.specs.Classes.{Class, Member, class_named, imported, method_of_export}
-use Rattle.cjc_world.specs.Supertypes.{Above, AreSupertypes, Supertypes, End, Known, Lists, Unknown, after, directly}
-use Rattle.cjc_world.specs.Supertypes.{ends, foremost, supertypes, known_here, onwards, stands_by_supers, unknown_here}
+use Rattle.cjc_world.specs.Supertypes.{Above, AreSupertypes, IsAcyclic, Supertypes, End, Known, Lists, Unknown, after}
+use Rattle.cjc_world.specs.Supertypes.{directly, ends, foremost, supertypes, known_here, onwards, stands_by_supers}
+use Rattle.cjc_world.specs.Supertypes.{unknown_here}
 use Rattle.cjc_world.proofs.Cycles.{class_named-name}
 use Rattle.cjc_world.specs.Supertypes as supertype_trees
 use Rattle.cjc_token_proof.proofs.WrittenCalls.Facts.{Facts, exported}
@@ -153,16 +154,23 @@ classes_token_is : (id : MemberId) (ds : List Class) → first_class (class_toke
 classes_token_is id [] = refl
 classes_token_is id (d ∷ ds) = ap (or_else (class_token id d)) (classes_token_is id ds)
 
+-- What a world has of the classes of export files: each is an imported class there, and each imported class is one of
+-- them, which lists imported classes alone.
+pub record HasFiles (w : List Class) (es : List ExportClass) : Type 0 where
+  pub are_supertypes : (xs : List (List ℕ)) → AreSupertypes w xs (supertypes w xs)
+  pub one_supertypes : (xs : List (List ℕ)) (j k : Supertypes) → AreSupertypes w xs j → AreSupertypes w xs k → j ≡ k
+  pub acyclic : IsAcyclic w
+  pub apart : (x y : List ℕ) (c d : Class) → class_named w x ≡ Some c → c.is_imported ≡ true → Lists y c.supers
+      → class_named w y ≡ Some d → d.is_imported ≡ true
+  pub of_file : (y : List ℕ) (e : ExportClass) → exports.class_named es y ≡ Some e → (k : ℕ)
+      × (class_named w y ≡ Some (imported k e))
+  pub in_file : (y : List ℕ) (d : Class) → class_named w y ≡ Some d → d.is_imported ≡ true → (k : ℕ)
+      × (e : ExportClass) × (exports.class_named es y ≡ Some e) × (d ≡ imported k e)
+
 -- What classes answer, and what the classes of export files answer alike.
-module _ {A : Type 0} (p : Package) (facts : Facts p) (of_file : ExportClass → Option A) (answer : Class → Option A)
-    (alike : (y : List ℕ) (k : ℕ) (e : ExportClass) → exports.class_named (exported p) y ≡ Some e → of_file e
-    ≡ answer (imported k e)) where
-  abbrev w : List Class
-  w = world p
-
-  abbrev es : List ExportClass
-  es = exported p
-
+module _ {A : Type 0} (w : List Class) (es : List ExportClass) (facts : HasFiles w es)
+    (of_file : ExportClass → Option A) (answer : Class → Option A) (alike : (y : List ℕ) (k : ℕ) (e : ExportClass)
+    → exports.class_named es y ≡ Some e → of_file e ≡ answer (imported k e)) where
   -- what the classes of a tree say, over supers
   abbrev tree_answer : Supertypes → Option A
   tree_answer k = first_class answer (supertype_trees.upwards k)
@@ -252,8 +260,8 @@ module _ {A : Type 0} (p : Package) (facts : Facts p) (of_file : ExportClass →
   not_itself : (x : List ℕ) (c : Class) (supers : Supertypes) → class_named w x ≡ Some c
       → AreSupertypes w c.supers supers → stands_by_supers x supers ≡ true → ⊥
   not_itself x c supers e ks s = elim (stands_above c.supers supers ks x s) [
-    | inl listed ↦ facts.rules.acyclic x (directly c e (lists_front x c.supers c.interfaces listed))
-    | inr up ↦ facts.rules.acyclic x (onwards c e (lists_front up.0 c.supers c.interfaces up.1) up.2)
+    | inl listed ↦ facts.acyclic x (directly c e (lists_front x c.supers c.interfaces listed))
+    | inr up ↦ facts.acyclic x (onwards c e (lists_front up.0 c.supers c.interfaces up.1) up.2)
   ]
 
   -- ---- the walk
@@ -386,7 +394,7 @@ module _ {A : Type 0} (p : Package) (facts : Facts p) (of_file : ExportClass →
       itself_at z same = ap (λ y. stands_by_supers y (Known c supers interfaces next)) (sym same) ∙ itself
 
       super_imported : AllImported c.supers
-      super_imported y d h f = facts.rules.apart x y c d e import h f
+      super_imported y d h f = facts.apart x y c d e import h f
 
       passed_more : (z : List ℕ) → is_one_of (x ∷ passed) z ≡ true → (is_one_of passed z ≡ true)
           ⊎ (stands_by_supers z (Known c supers interfaces next) ≡ true)
@@ -533,9 +541,9 @@ module _ {A : Type 0} (p : Package) (facts : Facts p) (of_file : ExportClass →
   nothing_upwards (suc n) passed = refl
 
   -- What is listed first upwards from some names is what the first class above them says.
-  pub upwards_first : (names : List (List ℕ)) → AllImported names → first_file of_file (exports.upwards es names)
+  pub files_first : (names : List (List ℕ)) → AllImported names → first_file of_file (exports.upwards es names)
       ≡ first_class answer (supertype_trees.upwards (supertypes w names))
-  upwards_first names own =
+  files_first names own =
       let r = walk names (supertypes w names) (facts.are_supertypes names) own (length names + super_count es) [] []
       (let same = append-nil names in let long = ap length same in let all = weight_is es
       in omega (arith, long, all)) (λ z h g. absurd (cc)) in
@@ -545,12 +553,40 @@ module _ {A : Type 0} (p : Package) (facts : Facts p) (of_file : ExportClass →
       ∙ else_none (tree_answer (supertypes w names))
 
 -- so it is with the token of a method
+pub files_token : (w : List Class) (es : List ExportClass) → HasFiles w es → (id : MemberId) → ((y : List ℕ)
+    (e : ExportClass) → exports.class_named es y ≡ Some e → (k : ℕ) (m : ExportMethod)
+    → Rattle.std.specs.Prelude.slice_get e.methods k ≡ Some m → is_initialiser m.name ≡ true
+    → is_static m.flags ≡ true) → (names : List (List ℕ)) → ((x : List ℕ) (d : Class) → Lists x names
+    → class_named w x ≡ Some d → d.is_imported ≡ true)
+    → token_in_files (exports.upwards es names) id ≡ classes_token id (supertype_trees.upwards (supertypes w names))
+files_token w es has id plain names own =
+    files_token_is id (exports.upwards es names)
+    ∙ files_first w es has (λ (u : ExportClass). listed_token u.methods id) (class_token id)
+    (λ y k e named. listed_is id k e (plain y e named)) names own
+    ∙ classes_token_is id (supertype_trees.upwards (supertypes w names))
+
+-- ---- a package by itself
+
+has_files : (p : Package) → Facts p → HasFiles (world p) (exported p)
+has_files p facts = record {
+  are_supertypes = facts.are_supertypes;
+  one_supertypes = facts.one_supertypes;
+  acyclic = facts.rules.acyclic;
+  apart = facts.rules.apart;
+  of_file = facts.of_file;
+  in_file = facts.in_file;
+}
+
+pub upwards_first : {A : Type 0} (p : Package) (facts : Facts p) (of_file : ExportClass → Option A)
+    (answer : Class → Option A) → ((y : List ℕ) (k : ℕ) (e : ExportClass) → exports.class_named (exported p) y ≡ Some e
+    → of_file e ≡ answer (imported k e)) → (names : List (List ℕ)) → ((x : List ℕ) (d : Class) → Lists x names
+    → class_named (world p) x ≡ Some d → d.is_imported ≡ true) → first_file of_file (exports.upwards (exported p) names)
+    ≡ first_class answer (supertype_trees.upwards (supertypes (world p) names))
+upwards_first p facts of_file answer alike names own =
+    files_first (world p) (exported p) (has_files p facts) of_file answer alike names own
+
 pub upwards_token : (p : Package) (facts : Facts p) (id : MemberId) (names : List (List ℕ)) → ((x : List ℕ) (d : Class)
     → Lists x names → class_named (world p) x ≡ Some d → d.is_imported ≡ true)
     → token_in_files (exports.upwards (exported p) names) id ≡ classes_token id (supertype_trees.upwards (supertypes
     (world p) names))
-upwards_token p facts id names own =
-    files_token_is id (exports.upwards (exported p) names)
-    ∙ upwards_first p facts (λ (u : ExportClass). listed_token u.methods id) (class_token id)
-    (λ y k e named. listed_is id k e (facts.plain y e named)) names own
-    ∙ classes_token_is id (supertype_trees.upwards (supertypes (world p) names))
+upwards_token p facts id names own = files_token (world p) (exported p) (has_files p facts) id facts.plain names own

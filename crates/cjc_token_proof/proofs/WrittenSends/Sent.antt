@@ -114,7 +114,7 @@ module _ (l : Loaded) where
     sent_nothing_by named id (Some None) = refl
     sent_nothing_by named id (Some (Some t)) = dispatched_nothing tree number t
 
-    sent_nothing : (named : card.Class) (id : MemberId) → Nothing (sent_to l receiving named id)
+    pub sent_nothing : (named : card.Class) (id : MemberId) → Nothing (sent_to l receiving named id)
     sent_nothing named id = by (card.is_interface l named)
       where
         by : (t : Bool) → Nothing (if t then through l receiving named (interface_token l named id)

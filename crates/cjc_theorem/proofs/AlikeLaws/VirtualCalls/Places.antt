@@ -125,8 +125,8 @@ module _ (count : ℕ) where
 -- ---- interfaces
 
 module _ (files : Files) (writable : (e : ℕ) (t : ExportTree) → slice_get files.exports e ≡ Some t → IsWritable t) where
-  own_in : (d : Class) → IsFiled files d → is_interface d.flags ≡ true → (k : ℕ) (m : Member) → slice_get d.methods k
-      ≡ Some m → is_initialiser m.name ≡ false → In m (own_methods d)
+  pub own_in : (d : Class) → IsFiled files d → is_interface d.flags ≡ true → (k : ℕ) (m : Member)
+      → slice_get d.methods k ≡ Some m → is_initialiser m.name ≡ false → In m (own_methods d)
   unfolding own_methods
   own_in d (in_class_file n t at) interface k m e plain = kept_in d.methods m (member_in d.methods k m e) plain
   own_in d (in_export_file n t at) interface k m e plain =
