@@ -15,6 +15,8 @@ USE = """usage: jcconv explain RULE
        jcconv convert LIST DIR 2>&1 | jcconv explain - [LIST or DIR]"""
 # the rules whose file is the list
 OF_LISTS = {107, 108, 207, 309, 401, 402, 407, 408, 409, 411, 414, 416}
+# the rules that `link` tells of a class at its package's list
+OF_GROUPS = {203, 735}
 OTHER = {
     "absent": "No file has this name. Names are used as they stand in the list, from the folder where you run jcconv.",
     "too long": "The file has more than 262,144 bytes, which no file that is read may have.",
@@ -59,6 +61,8 @@ class Told:
             data = file.read()
         if self.refusal.of is None or data[:4] == b"\x00\xfa\xca\xde":
             return files.lines(self, data)
+        if self.rule in OF_GROUPS and data[:4] != b"\xca\xfe\xba\xbe":
+            return [f"{self.refusal.of} is the class, of the package that this list names in its group."]
         try:
             of = classfile.ClassFile(data)
             if of.name != self.refusal.of:

@@ -176,6 +176,12 @@ class Places(unittest.TestCase):
         broken = folder_of(self, T_class=b"\xca\xfe\xba\xbe\0\0\0\x34")
         self.assertIn("can't be read as a class file", self.before("refused 601 T.class p/T f()V 3", broken))
 
+    def test_classes_of_a_group(self):
+        folder = folder_of(self, e_list=b"package e A000000023 1.0\nexport lang.exp\nclass Y.class\n")
+        for rule in (203, 735):
+            self.assertIn("e/Y is the class, of the package that this list names in its group.",
+                          self.before(f"refused {rule} e.list e/Y - 0", folder))
+
     def test_source_that_is_not_there(self):
         mean, clock = read(CASES, "602", "Mean.class"), read(CASES, "301", "Clock.class")
         folder = folder_of(self, Mean_class=mean, Clock_class=clock)

@@ -3,14 +3,17 @@ use Rattle.std.proofs.Common.{◌≡◌, inl, inr, ℕ, List, [], ◌∷◌, map
 use Rattle.cjc_group.proofs.BytesBrokenRules.{none_among}
 use Rattle.cjc_group.specs.Bytes.Breaks.{Among, Break, IsFirstRefusal}
 use Rattle.cjc_group.specs.Bytes.declared.fault.Fault.{Fault}
+use Rattle.cjc_group.specs.Bytes.declared.fault.Refusal.{Refusal}
 use Rattle.cjc_cmd_card.proofs.ReportLaws.Free.{spelt, trees, world_is}
 use Rattle.cjc_cmd_card.specs.declared.running.input.Input.{Input}
 use Rattle.cjc_cmd_link.specs.Members.{AreLinked, IsLinked, exported_by, linked_of}
-use Rattle.cjc_cmd_link.specs.Refused.{AreAgreed, BreaksTogether, IsFault, IsRefused, NoPart, by_group}
-use Rattle.cjc_cmd_link.specs.Working.{AreMade, IsMade, linked_as, world_of, worlds_of}
+use Rattle.cjc_cmd_link.specs.Refused.{AreAgreed, BreakNone, Breaks, IsFault, IsRefused, MissNone, NoPart, by_group}
+use Rattle.cjc_cmd_link.specs.Refused.{by_missing}
+use Rattle.cjc_cmd_link.specs.Working.{AreMade, IsMade, IsTogetherFault, linked_as, world_of, worlds_of}
 use Rattle.cjc_cmd_link.specs.declared.members.Tested.{Tested}
 use Rattle.cjc_cmd_link.specs.declared.reads.GroupInput.{GroupInput}
 use Rattle.cjc_group.specs.Members.{Member}
+use Rattle.cjc_group.specs.Missing.{missing}
 use Rattle.cjc_group.specs.Rules.{breaks}
 use Rattle.cjc_cmd_card.proofs.JudgeFirsts.{one_spelling}
 use Rattle.cjc_cmd_card.specs.LowerJudge.Rules.{IsFirstRefused}
@@ -63,26 +66,42 @@ pub files_linked : (ts : List Tested) → map (λ (m : Member). m.files) (map li
 files_linked [] = refl
 files_linked (t ∷ ts) = ap (λ xs. world_of t ∷ xs) (files_linked ts)
 
--- ---- 731 to 735
+-- ---- what is broken together
 
 module _ (input : GroupInput) (group : List Member) (linked : AreLinked input.members group) where
-  there : (b : Break) → BreaksTogether input b → Among b (breaks group)
-  there b (others, linked_too, among) =
-      subst (λ ms. Among b (breaks ms)) (one_linked input.members others group linked_too linked) among
+  module _ (broken : List Member → List Break) where
+    there : (b : Break) → Breaks broken input b → Among b (broken group)
+    there b (others, linked_too, among) =
+        subst (λ ms. Among b (broken ms)) (one_linked input.members others group linked_too linked) among
+
+    pub break_none : broken group ≡ [] → BreakNone broken input
+    break_none none b h = none_among b (subst (Among b) none (there b h))
+
+    pub first_fault : (e : Fault) → IsFirstRefusal (broken group) e → IsFault (IsFirstRefused (Breaks broken input)) e
+    first_fault e (inl memory) = inl memory
+    first_fault e (inr (b, first, is)) =
+        let refused : IsFirstRefused (Breaks broken input) b.refusal = record {
+          broken = b;
+          first = record {
+            breaks = (group, linked, first.among);
+            least = λ a h. first.least a (there a h);
+          };
+          is = refl;
+        } in
+        inr (b.refusal, refused, is)
 
   pub are_agreed : breaks group ≡ [] → AreAgreed input
-  are_agreed none b broken = none_among b (subst (Among b) none (there b broken))
+  are_agreed none = break_none breaks none
 
-  pub together_fault : (name script : List ℕ) (e : Fault) → NoPart input script → IsFirstRefusal (breaks group) e
+  pub miss_none : missing group ≡ [] → MissNone input
+  miss_none none = break_none missing none
+
+  of_fault : {P Q : Refusal → Type 0} (e : Fault) → ((r : Refusal) → P r → Q r) → IsFault P e → IsFault Q e
+  of_fault e f (inl memory) = inl memory
+  of_fault e f (inr (r, holds, is)) = inr (r, f r holds, is)
+
+  pub together_fault : (name script : List ℕ) (e : Fault) → NoPart input script → IsTogetherFault group e
       → IsFault (IsRefused input name script) e
-  together_fault name script e none (inl memory) = inl memory
-  together_fault name script e none (inr (b, first, is)) =
-      let refused : IsFirstRefused (BreaksTogether input) b.refusal = record {
-        broken = b;
-        first = record {
-          breaks = (group, linked, first.among);
-          least = λ a broken. first.least a (there a broken);
-        };
-        is = refl;
-      } in
-      inr (b.refusal, by_group none refused, is)
+  together_fault name script e none (inl first) = of_fault e (λ r. by_group none) (first_fault breaks e first)
+  together_fault name script e none (inr (agreed, first)) =
+      of_fault e (λ r. by_missing none (are_agreed agreed)) (first_fault missing e first)

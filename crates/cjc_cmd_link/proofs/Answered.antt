@@ -9,7 +9,8 @@ use Rattle.cjc_group.specs.Bytes.declared.fault.Refusal.{Refusal}
 use Rattle.cjc_cmd_card.specs.declared.running.input.Input.{Input}
 use Rattle.cjc_cmd_link.proofs.Agreed.{are_linked, files_linked, one_linked}
 use Rattle.cjc_cmd_link.specs.Members.{AreLinked, AreTested, IsTested}
-use Rattle.cjc_cmd_link.specs.Refused.{AreAgreed, IsFault, IsRefused, NoPart, by_cycle, by_group, by_part}
+use Rattle.cjc_cmd_link.specs.Refused.{AreAgreed, IsFault, IsRefused, MissNone, NoPart, by_cycle, by_group, by_missing}
+use Rattle.cjc_cmd_link.specs.Refused.{by_part}
 use Rattle.cjc_cmd_link.specs.Runs.{IsRun, Runs, report_by_name}
 use Rattle.cjc_cmd_link.specs.Working.{AreMade, IsCycle, IsFree, IsMade, linked_as, world_of, worlds_of}
 use Rattle.cjc_cmd_link.specs.declared.members.Tested.{Tested}
@@ -79,7 +80,8 @@ are_run (i ∷ inputs) (t ∷ ts) (j ∷ images) all =
 -- ---- nothing is refused
 
 module _ (input : GroupInput) (name script : List ℕ) (ts : List Tested) (images : List StaticImage)
-    (made : AreMade input.members ts images) (none : NoPart input script) (agreed : AreAgreed input) where
+    (made : AreMade input.members ts images) (none : NoPart input script) (agreed : AreAgreed input)
+    (known : MissNone input) where
   linked : (group : List Linked) → AreLinked input.members group
       → map (λ (m : Linked). m.files) group ≡ worlds_of ts
   linked group are =
@@ -89,7 +91,8 @@ module _ (input : GroupInput) (name script : List ℕ) (ts : List Tested) (image
   unbroken : IsFree (worlds_of ts) → (r : Refusal) → IsRefused input name script r → ⊥
   unbroken free r (by_part first) = none first.part r first.refused
   unbroken free r (by_group unrefused first) = agreed first.broken first.first.breaks
-  unbroken free r (by_cycle unrefused agree cycle is) =
+  unbroken free r (by_missing unrefused agree first) = known first.broken first.first.breaks
+  unbroken free r (by_cycle unrefused agree miss cycle is) =
       free (subst (λ group. has_cycle (all_classes (joint group)) ≡ true) (linked cycle.0 cycle.1) cycle.2)
 
   pub cycle_fault : (e : Fault) → IsFault (IsCycle name (worlds_of ts)) e → IsFault (IsRefused input name script) e
@@ -97,7 +100,7 @@ module _ (input : GroupInput) (name script : List ℕ) (ts : List Tested) (image
   cycle_fault e (inr (r, cycle, is)) =
       inr (
         r,
-        by_cycle none agreed (
+        by_cycle none agreed known (
           map linked_as ts,
           are_linked input.members ts images made,
           subst (λ group. has_cycle (all_classes (joint group)) ≡ true) (sym (files_linked ts)) cycle.0,

@@ -1,6 +1,7 @@
 -- Which refusal is answered where several packages are to run together: each package is tested as the command that runs
 -- one tests it, and the script behind them; where none of these is refused, what the packages do not agree on is told,
--- and last a class that only the export files of all packages together put above itself.
+-- then a class that implements an interface below one that its package misses, and last a class that only the export
+-- files of all packages together put above itself.
 use Rattle.std.specs.Prelude.{◌≡◌, ◌⊎◌, ◌/◌, ℕ, List, [], ◌∷◌, length, map, true, Some, Err, slice_get}
 use Rattle.cjc_group.specs.Bytes.Breaks.{Among, Break}
 use Rattle.cjc_group.specs.Bytes.Order.{AreUpTo}
@@ -18,6 +19,7 @@ use Rattle.cjc_group.specs.World.Rules.{has_cycle}
 use Rattle.cjc_cmd_link.specs.Members.{AreLinked}
 use Rattle.cjc_cmd_link.specs.declared.reads.GroupInput.{GroupInput}
 use Rattle.cjc_group.specs.Members.{Member as Linked}
+use Rattle.cjc_group.specs.Missing.{missing}
 use Rattle.cjc_group.specs.Rules.{breaks}
 
 -- ---- each by itself
@@ -45,13 +47,29 @@ pub record IsFirstPart (Refused : (part : ℕ) → Refusal → Type 0) (r : Refu
 
 -- ---- all together
 
+-- what the packages break of this together
+abbrev pub Breaks : (List Linked → List Break) → GroupInput → Break → Type 0
+Breaks broken input b = (group : List Linked) × AreLinked input.members group × Among b (broken group)
+
+-- they break nothing of it
+abbrev pub BreakNone : (List Linked → List Break) → GroupInput → Type 0
+BreakNone broken input = (b : Break) → Breaks broken input b → ⊥
+
 -- 731 to 735: what the packages do not agree on
 abbrev pub BreaksTogether : GroupInput → Break → Type 0
-BreaksTogether input b = (group : List Linked) × AreLinked input.members group × Among b (breaks group)
+BreaksTogether input b = Breaks breaks input b
 
 -- the packages agree
 abbrev pub AreAgreed : GroupInput → Type 0
-AreAgreed input = (b : Break) → BreaksTogether input b → ⊥
+AreAgreed input = BreakNone breaks input
+
+-- 203: a class implements an interface below one that no file of its package has, and a file of another package does
+abbrev pub BreaksMissing : GroupInput → Break → Type 0
+BreaksMissing input b = Breaks missing input b
+
+-- no class does
+abbrev pub MissNone : GroupInput → Type 0
+MissNone input = BreakNone missing input
 
 -- 204: the export files of packages outside the group, which no package of it imports all, put a class above itself
 abbrev pub HasCycle : GroupInput → Type 0
@@ -62,7 +80,9 @@ HasCycle input = (group : List Linked) × AreLinked input.members group
 pub data IsRefused (input : GroupInput) (name script : List ℕ) (r : Refusal) : Type 0 where
   by_part : IsFirstPart (PartRefused input script) r → IsRefused input name script r
   by_group : NoPart input script → IsFirstRefused (BreaksTogether input) r → IsRefused input name script r
-  by_cycle : NoPart input script → AreAgreed input → HasCycle input → r ≡ refusal name 204 0
+  by_missing : NoPart input script → AreAgreed input → IsFirstRefused (BreaksMissing input) r
+      → IsRefused input name script r
+  by_cycle : NoPart input script → AreAgreed input → MissNone input → HasCycle input → r ≡ refusal name 204 0
       → IsRefused input name script r
 
 -- The error is a refusal of which this holds, or that memory ran out.

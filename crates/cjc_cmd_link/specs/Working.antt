@@ -1,10 +1,12 @@
 -- What the code keeps for itself; a reader of the contracts may pass over it.
-use Rattle.std.specs.Prelude.{◌≡◌, ◌/◌, ◌<◌, ℕ, List, [], ◌∷◌, ◌++◌, nat_lt, if◌then◌else◌, Option, Some, None}
+use Rattle.std.specs.Prelude.{◌≡◌, ◌⊎◌, ◌/◌, ◌<◌, ℕ, List, [], ◌∷◌, ◌++◌, nat_lt, if◌then◌else◌, Option, Some, None}
 use Rattle.std.specs.Prelude.{map, slice_get, true, Result, Ok, Err}
 use Rattle.std.specs.List.{AllByRecursion}
 use Rattle.cjc_link_semantics.specs.CheckRules.Complete.{Complete, complete}
 use Rattle.cjc_link_semantics.specs.Components.Paired.Pairs.{ArePaired}
+use Rattle.cjc_group.specs.Bytes.Breaks.{IsFirstRefusal}
 use Rattle.cjc_group.specs.Bytes.Refused.{refusal}
+use Rattle.cjc_group.specs.Bytes.declared.fault.Fault.{Fault}
 use Rattle.cjc_group.specs.Bytes.declared.fault.Refusal.{Refusal}
 use Rattle.cjc_group.specs.Bytes.declared.settings.FileLine.{FileLine}
 use Rattle.cjc_link_semantics.specs.Clinit.Image.{IsImage}
@@ -26,6 +28,8 @@ use Rattle.cjc_cmd_link.specs.declared.members.Tested.{Tested}
 use Rattle.cjc_link_semantics.specs.Bytecode.PackageCodes.{all_codes}
 use Rattle.cjc_link_semantics.specs.ExportFile.declared.tree.ExportTree.{ExportTree}
 use Rattle.cjc_group.specs.Members.{Member as Linked}
+use Rattle.cjc_group.specs.Missing.{missing}
+use Rattle.cjc_group.specs.Rules.{breaks}
 
 -- ---- the packages
 
@@ -118,6 +122,10 @@ StopsBy refusal (Ok tree) r = refusal ≡ Some r
 StopsBy refusal (Err s) r = r ≡ earlier refusal s
 
 -- ---- all together
+
+-- The error is of what these packages do not agree on; or they agree, and it is of what they miss.
+abbrev pub IsTogetherFault : List Linked → Fault → Type 0
+IsTogetherFault group e = IsFirstRefusal (breaks group) e ⊎ ((breaks group ≡ []) × IsFirstRefusal (missing group) e)
 
 -- a class is above itself in the world of these packages, which is told at the text of this name
 abbrev pub IsCycle : (name : List ℕ) → List Files → Refusal → Type 0

@@ -4,7 +4,6 @@
 ghost use Rattle.std.specs.Prelude.{◌≡◌, ◌<◌, ◌^◌, ◌++◌, ◌∷◌, [], List as Items, ℕ, length, map, IfErr, IfNone, IfOk};
 ghost use Rattle.std.specs.Prelude.{None, Ok, OnOk, Some};
 ghost use Rattle.std.specs.List.{AllByRecursion};
-ghost use Rattle.cjc_group.specs.Bytes.Breaks.{IsFirstRefusal};
 ghost use Rattle.cjc_group.specs.Bytes.declared.fault.Fault.TheVariants as faults;
 ghost use Rattle.cjc_group.specs.Bytes.declared.fault.Refusal.{Refusal as Refused};
 ghost use Rattle.cjc_cmd_card.specs.CheckIndex.Lookup.Parts.{complete_of};
@@ -18,11 +17,13 @@ ghost use Rattle.cjc_cmd_card.specs.declared.running.input.Input.{Input as Given
 ghost use Rattle.cjc_cmd_card.specs.LowerJudge.Rules.{IsFirstFault};
 ghost use Rattle.cjc_cmd_card.specs.LowerScriptText.Scripted.{scripted};
 ghost use Rattle.cjc_group.specs.World.declared.image.StaticImage.{StaticImage as Image};
+ghost use Rattle.cjc_group.specs.Missing.{missing};
 ghost use Rattle.cjc_group.specs.Rules.{breaks};
 ghost use Rattle.cjc_cmd_link.specs.Reads.{IsGroup};
-ghost use Rattle.cjc_cmd_link.specs.Refused.{AreAgreed, IsFault, IsFirstPart, IsRefused, NoPart, PartRefused};
-ghost use Rattle.cjc_cmd_link.specs.Working.{AreMade, AreOfGroup, Follows, IsMade, MemberRefused, StandsSo, StopsBy};
-ghost use Rattle.cjc_cmd_link.specs.Working.{earlier, linked_as, written_of};
+ghost use Rattle.cjc_cmd_link.specs.Refused.{AreAgreed, IsFault, IsFirstPart, IsRefused, MissNone, NoPart};
+ghost use Rattle.cjc_cmd_link.specs.Refused.{PartRefused};
+ghost use Rattle.cjc_cmd_link.specs.Working.{AreMade, AreOfGroup, Follows, IsMade, IsTogetherFault, MemberRefused};
+ghost use Rattle.cjc_cmd_link.specs.Working.{StandsSo, StopsBy, earlier, linked_as, written_of};
 
 use crate::reads::GroupInput;
 use cjc_cmd_card::check_index::lookup::{Parts, parts_of};
@@ -34,7 +35,7 @@ use cjc_cmd_card::script_text::read;
 use cjc_group::bytes::{Fault, NoMemory, Refusal, Row};
 use cjc_group::export_file::ExportTree;
 use cjc_group::world::StaticImage;
-use cjc_group::{Member, test_group};
+use cjc_group::{Member, test_group, test_missing};
 use cjc_link_semantics::check_rules::consistent_where_unbroken;
 use cjc_link_semantics::script::Script;
 use std::alloc::Global;
@@ -260,27 +261,39 @@ fn linked_with<'w, 'a>(
     Ok(group)
 }
 
-/// Tests what the packages agree on.
+/// Tests what packages agree on, and what each misses that the others know.
+fn test_linked(alloc: Global, group: &[Member<'_, '_>]) -> Result<(), Fault>
+    ensures agreed { OnOk result (breaks group.now ≡ []) }
+    ensures known { OnOk result (missing group.now ≡ []) }
+    ensures refused { IfErr result (IsTogetherFault group.now) }
+{
+    test_group(alloc, group)?;
+    test_missing(alloc, group)
+}
+
+/// Tests what the packages agree on, and what each misses.
 fn test_together(alloc: Global, members: &[Tested<'_>]) -> Result<(), Fault>
     requires { AreOfGroup members.now }
     ensures agreed { OnOk result (breaks (map linked_as members.now) ≡ []) }
-    ensures refused { IfErr result (IsFirstRefusal (breaks (map linked_as members.now))) }
+    ensures known { OnOk result (missing (map linked_as members.now) ≡ []) }
+    ensures refused { IfErr result (IsTogetherFault (map linked_as members.now)) }
 {
     let trees = all_written(alloc, members)?;
     let group = linked_with(alloc, members, trees.items())?;
-    test_group(alloc, group.items())
+    test_linked(alloc, group.items())
 }
 
-/// Tests what packages and a script that were tested by themselves agree on.
+/// Tests what packages and a script that were tested by themselves agree on, and what each package misses.
 fn test_agreed(alloc: Global, group: &ReadyGroup<'_>) -> Result<(), Fault>
     requires { AreOfGroup group.now.members }
     ensures agreed { OnOk result (breaks (map linked_as group.now.members) ≡ []) }
-    ensures refused { IfErr result (IsFirstRefusal (breaks (map linked_as group.now.members))) }
+    ensures known { OnOk result (missing (map linked_as group.now.members) ≡ []) }
+    ensures refused { IfErr result (IsTogetherFault (map linked_as group.now.members)) }
 {
     test_together(alloc, group.members.items())
 }
 
-/// The packages and the script, where none of these breaks a rule and the packages agree.
+/// The packages and the script, where none of these breaks a rule, the packages agree, and none misses an interface.
 pub(crate) fn make_group<'a>(
     alloc: Global,
     input: &'a GroupInput,
@@ -291,6 +304,7 @@ pub(crate) fn make_group<'a>(
     ensures script { IfOk result (λ g. scripted script.now input.now.script ≡ Ok g.script) }
     ensures passed { OnOk result (NoPart input.now script.now) }
     ensures agreed { OnOk result (AreAgreed input.now) }
+    ensures known { OnOk result (MissNone input.now) }
     ensures refused { (name : Items ℕ) → IfErr result (IsFault (IsRefused input.now name script.now)) }
 {
     let group = test_parts(alloc, input, script)?;

@@ -127,8 +127,8 @@ fn judge_names(
 ///
 /// A text or a list that is refused; the first file that is absent, too long or can't be read; where all are read the
 /// first refusal of a package as the command that runs components answers it, or of the script, by the hundreds of
-/// their rules; where there is none, what the packages do not agree on, or a class that only all export files together
-/// put above itself; want of memory.
+/// their rules; where there is none, what the packages do not agree on, then a class that implements an interface below
+/// one that its package misses, and last a class that only all export files together put above itself; want of memory.
 pub fn gather_linkjvm<S: Shelf>(
     alloc: Global,
     name: &[u8],

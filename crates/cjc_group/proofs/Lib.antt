@@ -5,6 +5,7 @@ pub mod Alike
 pub mod Chains
 pub mod Agreeing
 pub mod OneRank
+pub mod Missed
 -- Lemmas of lower crates, for those above.
 pub use Rattle.cjc_bytes.proofs.BrokenRules as BytesBrokenRules
 pub use Rattle.cjc_bytes.proofs.Firsts as BytesFirsts

@@ -2,15 +2,17 @@
 use Rattle.std.proofs.Common.{◌≡◌, ℕ, zero, suc, ◌+◌, refl, sym, ap, subst, ◌∙◌, arith, Bool, List, []}
 use Rattle.std.proofs.Common.{◌∷◌, inl, inr, Option, Some, None, add-one}
 use Rattle.std.specs.Prelude.{slice_get}
-use Rattle.cjc_bytes.specs.Breaks.{Among, Break, RulePlace, at, broken_at, each_from}
+use Rattle.cjc_bytes.specs.Breaks.{Among, Break, RulePlace, at, broken_at, each, each_from}
 use Rattle.cjc_bytes.specs.Order.{Rank}
 use Rattle.cjc_bytes.specs.Refused.{in_class}
 use Rattle.cjc_bytes.specs.declared.order.FileKey.TheVariants as keys
 use Rattle.cjc_bytes.proofs.Firsts.{among_either}
 use Rattle.cjc_bytes.proofs.BrokenRules.{none_among, in_at}
 use Rattle.cjc_world.specs.ClassFile.declared.tree.ClassTree.{ClassTree}
+use Rattle.cjc_world.specs.Classes.{all_classes}
 use Rattle.cjc_group.specs.Implementing.{lacks_implementation}
 use Rattle.cjc_group.specs.Members.{Member}
+use Rattle.cjc_group.specs.Missing.{gaps, implements_one, member_missing, missing}
 use Rattle.cjc_group.specs.Rules.{breaks, class_at, class_breaks, list_at, list_breaks, member_breaks}
 
 -- ---- lists
@@ -129,17 +131,24 @@ module _ (group : List Member) where
       ]
     ]
 
-    of_class : (b : Break) → Among b (class_breaks group i p) → IsTold b
-    of_class b among =
-        let f : ℕ → ClassTree → List Break = λ k c. at (lacks_implementation group i c) (class_at i p k c) 735 in
+    of_classes : (test : ClassTree → Bool) (rule : ℕ) (b : Break)
+        → Among b (each (λ k c. at (test c) (class_at i p k c) rule) p.files.classes) → IsTold b
+    of_classes test rule b among =
+        let f : ℕ → ClassTree → List Break = λ k c. at (test c) (class_at i p k c) rule in
         let o = in_each f 0 p.files.classes b among in
         record {
           place = i;
           class = o.place + 1;
-          rule = 735;
-          is = in_at (lacks_implementation group i o.item) (class_at i p o.place o.item) 735 b
-              (front f p.files.classes b o) ∙ ap (λ s. broken_at s 735) (class_told o.place o.item o.is);
+          rule = rule;
+          is = in_at (test o.item) (class_at i p o.place o.item) rule b (front f p.files.classes b o)
+              ∙ ap (λ s. broken_at s rule) (class_told o.place o.item o.is);
         }
+
+    of_class : (b : Break) → Among b (class_breaks group i p) → IsTold b
+    of_class = of_classes (λ c. lacks_implementation group i c) 735
+
+    of_missing : (b : Break) → Among b (member_missing group i p) → IsTold b
+    of_missing = of_classes (λ c. implements_one (all_classes p.files) (gaps group p) c) 203
 
     of_member : (b : Break) → Among b (member_breaks group i p) → IsTold b
     of_member b among = elim (among_either b (list_breaks group i p) (class_breaks group i p) among) [
@@ -157,3 +166,14 @@ breaks_once group a b h g e = told_once group a b (told a h) (told b g) e
         let f : ℕ → Member → List Break = λ i p. member_breaks group i p in
         let o = in_each f 0 group b among in
         of_member group o.place o.item o.is b (front f group b o)
+
+-- so it is of 203
+pub missing_once : (group : List Member) (a b : Break) → Among a (missing group) → Among b (missing group)
+    → a.rank ≡ b.rank → a.refusal ≡ b.refusal
+missing_once group a b h g e = told_once group a b (told a h) (told b g) e
+  where
+    told : (b : Break) → Among b (missing group) → IsTold group b
+    told b among =
+        let f : ℕ → Member → List Break = λ i p. member_missing group i p in
+        let o = in_each f 0 group b among in
+        of_missing group o.place o.item o.is b (front f group b o)

@@ -5,6 +5,7 @@ pub mod Trees
 pub mod Members
 pub mod Implementing
 pub mod Rules
+pub mod Missing
 pub mod Agree
 pub mod Worked
 -- Definitions of lower crates, for those above.

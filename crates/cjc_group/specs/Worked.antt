@@ -1,4 +1,4 @@
--- Groups made by hand: a library, and a package over it.
+-- Groups made by hand: a library, and a package over it; an interface, one over it, and a class over that.
 use Rattle.std.specs.Prelude.{ℕ, List, [], ◌∷◌, map, None, true, false, codes}
 use Rattle.cjc_bytes.specs.Breaks.{Break}
 use Rattle.cjc_bytes.specs.Refused.{refused_at, in_class}
@@ -8,6 +8,7 @@ use Rattle.cjc_world.specs.ClassFile.declared.tree.MethodTree.{MethodTree}
 use Rattle.cjc_world.specs.ExportFile.declared.tree.ExportMethod.{ExportMethod}
 use Rattle.cjc_world.specs.ExportFile.declared.tree.ExportTree.{ExportTree}
 use Rattle.cjc_group.specs.Members.{Member}
+use Rattle.cjc_group.specs.Missing.{missing}
 use Rattle.cjc_group.specs.Rules.{breaks}
 
 -- ---- how they are written here
@@ -126,6 +127,46 @@ app = app_over (lang ∷ lib_tree ∷ [])
 abbrev pub resting : ExportTree
 resting = exports_class (codes "q") 9 (codes "q/R") (codes "lib/L" ∷ object ∷ []) []
 
+-- an interface below others: of a class file, and the export file of a package of one; 0x0601 is public, abstract and an
+-- interface
+abbrev pub interface : (name : List ℕ) → (interfaces : List (List ℕ)) → ClassTree
+interface name interfaces = record (class 0x0601 name object []) { interfaces = interfaces }
+
+abbrev pub exports_interface : (package_name : List ℕ) → (aid : ℕ) → (name : List ℕ) → (interfaces : List (List ℕ))
+    → ExportTree
+exports_interface package_name aid name interfaces = record (exports_class package_name aid name [] []) {
+  classes = record {
+    token = 0;
+    flags = 0x0601;
+    name = name;
+    listed = [];
+    supers = object ∷ [];
+    interfaces = interfaces;
+    fields = [];
+    methods = [];
+  } ∷ [];
+}
+
+-- top has interface top/I, and mid has mid/Z, which extends it
+abbrev pub top_tree : ExportTree
+top_tree = exports_interface (codes "top") 4 (codes "top/I") []
+
+abbrev pub top : Member
+top = package_of (codes "top.list") (codes "top") 4 (interface (codes "top/I") []) (lang ∷ []) top_tree
+
+abbrev pub mid_tree : ExportTree
+mid_tree = exports_interface (codes "mid") 5 (codes "mid/Z") (codes "top/I" ∷ [])
+
+abbrev pub mid : Member
+mid = package_of (codes "mid.list") (codes "mid") 5 (interface (codes "mid/Z") (codes "top/I" ∷ []))
+    (lang ∷ top_tree ∷ []) mid_tree
+
+-- low has class low/Y, which implements mid/Z
+abbrev pub low_over : List ExportTree → Member
+low_over exports = package_of (codes "low.list") (codes "low") 6
+    (record (class 0x0021 (codes "low/Y") object []) { interfaces = codes "mid/Z" ∷ [] }) exports
+    (exports_class (codes "low") 6 (codes "low/Y") (object ∷ []) [])
+
 -- ---- what they break
 
 -- the refusals of what a group breaks
@@ -139,3 +180,11 @@ at_app rule class = refused_at rule (in_class (codes "app.list") class [] 0) ∷
 -- one at the list of lib
 abbrev pub at_lib : (rule : ℕ) → List Refusal
 at_lib rule = refused_at rule (in_class (codes "lib.list") [] [] 0) ∷ []
+
+-- the refusals of 203
+abbrev pub missing_refusals : List Member → List Refusal
+missing_refusals group = map (λ (b : Break). b.refusal) (missing group)
+
+-- one at the class of low
+abbrev pub at_low : (rule : ℕ) → List Refusal
+at_low rule = refused_at rule (in_class (codes "low.list") (codes "low/Y") [] 0) ∷ []

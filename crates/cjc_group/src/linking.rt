@@ -13,7 +13,7 @@ use cjc_bytes::{Break, Fault, FileKey, FileRef, NoMemory, RulePlace, answer, bro
 use std::alloc::Global;
 
 /// The list of the package at this place of the group.
-fn list_file<'w>(place: usize, member: &'w Member<'_, '_>) -> FileRef<'w>
+pub(crate) fn list_file<'w>(place: usize, member: &'w Member<'_, '_>) -> FileRef<'w>
     ensures { file_place_of result ≡ list_file place member.now }
 {
     FileRef {

@@ -1,6 +1,6 @@
 use Rattle.std.proofs.Common.{map}
 use Rattle.std.proofs.lemmas.Result.{err_from_is_err_and}
-use Rattle.cjc_cmd_link.proofs.Agreed.{are_agreed, are_linked, together_fault}
+use Rattle.cjc_cmd_link.proofs.Agreed.{are_agreed, are_linked, miss_none, together_fault}
 use Rattle.cjc_cmd_link.proofs.Parts.{parts_first}
 use Rattle.cjc_cmd_link.specs.Working.{linked_as}
 use Rattle.cjc_cmd_link.proofs.members.make_group.Goals as goal
@@ -34,3 +34,10 @@ returns-clause-agreed c =
     let ts = c.in_ok-group.group.members in
     are_agreed input (map linked_as ts) (are_linked input.members ts c.in_ok-group.group.images
     c.in_ok-group.ensures.made) c.in_ok-test_agreed.ensures.agreed
+
+pub returns-clause-known : goal.returns-clause-known
+returns-clause-known c =
+    let input = c.args.input.now in
+    let ts = c.in_ok-group.group.members in
+    miss_none input (map linked_as ts) (are_linked input.members ts c.in_ok-group.group.images
+    c.in_ok-group.ensures.made) c.in_ok-test_agreed.ensures.known

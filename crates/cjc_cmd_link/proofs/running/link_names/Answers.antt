@@ -21,15 +21,15 @@ pub returns-in_err-report-clause-refused : goal.returns-in_err-report-clause-ref
 returns-in_err-report-clause-refused c =
     let e = err_from_is_err_and c.from_residual-in_err-report.result c.from_residual-in_err-report.ensures.1 in
     rw (e.1, e.2) (cycle_fault c.args.input.now c.args.name.now c.args.script.now c.in_ok-group.group.members
-    c.in_ok-group.group.images c.in_ok-group.ensures.made c.in_ok-group.ensures.passed c.in_ok-group.ensures.agreed _
-    c.in_err-report.ensures.refused)
+    c.in_ok-group.group.images c.in_ok-group.ensures.made c.in_ok-group.ensures.passed c.in_ok-group.ensures.agreed
+    c.in_ok-group.ensures.known _ c.in_err-report.ensures.refused)
 
 pub returns-clause-done : goal.returns-clause-done
 returns-clause-done c =
     let group = c.in_ok-group.group in
     let ready = c.in_ok-group.ensures in
     has_run c.args.input.now c.args.name.now c.args.script.now group.members group.images ready.made ready.passed
-    ready.agreed (λ members tree. report_by_name members tree c.args.n) group.script c.in_ok-report.report _
+    ready.agreed ready.known (λ members tree. report_by_name members tree c.args.n) group.script c.in_ok-report.report _
     c.in_ok-report.ensures.free ready.script
     (λ members tested files images. named_report members (worlds_of group.members) group.images group.script c.args.n
     c.in_ok-report.report c.in_ok-report.ensures.report files images)

@@ -1,6 +1,8 @@
 use Rattle.std.proofs.Common.{refl}
 use Rattle.cjc_bytes.specs.Breaks.{each_from}
 use Rattle.cjc_world.specs.Classes.{classes_from, all_classes, class_named}
+use Rattle.cjc_world.specs.Subtype.{is_subclass}
+use Rattle.cjc_world.specs.Supertypes.{supertypes, supertypes_within}
 use Rattle.cjc_group.specs.Implementing.{upwards}
 use Rattle.cjc_group.proofs.laws.groups_are_tested.Goals as goal
 
@@ -31,3 +33,11 @@ returns-clause-differing c = refl
 pub returns-clause-left_open : goal.returns-clause-left_open
 unfolding each_from classes_from all_classes class_named upwards
 returns-clause-left_open c = refl
+
+pub returns-clause-missing : goal.returns-clause-missing
+unfolding each_from classes_from all_classes class_named is_subclass supertypes supertypes_within
+returns-clause-missing c = refl
+
+pub returns-clause-known : goal.returns-clause-known
+unfolding each_from classes_from all_classes class_named is_subclass supertypes supertypes_within
+returns-clause-known c = refl

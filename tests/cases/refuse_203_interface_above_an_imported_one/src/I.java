@@ -1,0 +1,5 @@
+package s;
+
+public interface I {
+    short m();
+}

@@ -1,0 +1,4 @@
+package r;
+
+public interface Z extends s.I {
+}
