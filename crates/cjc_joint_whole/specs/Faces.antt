@@ -10,7 +10,7 @@ use Rattle.cjc_joint_proof.specs.JointTables.{world_together}
 use Rattle.cjc_joint_proof.specs.JointTowers.{loaded_together}
 use Rattle.cjc_jvm_semantics.specs.OnePackage.{ResolvedMember}
 use Rattle.cjc_token_proof.specs.Calls.Selecting.{signature}
-use Rattle.cjc_token_proof.specs.CardSemantics.Machine.Dispatch.{dispatched_open, map_of, tower}
+use Rattle.cjc_token_proof.specs.CardSemantics.Machine.Dispatch.{dispatched_interface, dispatched_open, map_of, tower}
 use Rattle.cjc_token_proof.specs.NCode.ByLabel.{OnInterface}
 use Rattle.cjc_token_proof.specs.Script.Sorts.{Shape, shape_name}
 use Rattle.cjc_token_proof.specs.WrittenSends.Named.{is_called}
@@ -24,6 +24,7 @@ use Rattle.cjc_vtable.specs.declared.table.InterfaceMap.{InterfaceMap}
 use Rattle.cjc_world.specs.Classes.{Class, class_named}
 use Rattle.cjc_world.specs.Interfaces.{known}
 use Rattle.cjc_world.specs.Lookup.{receiver}
+use Rattle.cjc_world.specs.Supertypes.{Above, Lists}
 use Rattle.cjc_joint_whole.specs.Selected.{CallsFace, NamesVirtual, face_selection}
 
 -- Whatever code calls by invokeinterface is found as a method at which selection may end.
@@ -40,6 +41,29 @@ MapsGiveTokens packages = (q n : ℕ) (m : MemberId) (kind : Shape (List ℕ)) (
     → token (slots (line_of (world e) (receiver (shape_name kind)))) (signature m) ≡ Some t
     → face_selection packages q n m (receiver (shape_name kind))
     ≡ dispatched_open (tower (loaded_together packages) (class_together packages (receiver (shape_name kind)))) t
+
+-- ---- interfaces above
+
+-- Where a class file of a package that is no interface lists an interface, the package knows what interfaces stand above
+-- that one in the group: else its Class could not name them.
+abbrev pub InterfacesAreKnown : List Package → Type 0
+InterfacesAreKnown packages = (q : ℕ) (p : Package) → slice_get packages q ≡ Some p → (x : List ℕ) (c : Class)
+    → class_named (world p) x ≡ Some c → c.is_imported ≡ false → is_interface c.flags ≡ false → (j : List ℕ)
+    → Lists j c.interfaces → (y : List ℕ) (d : Class) → Above (world_together packages) j y
+    → class_named (world_together packages) y ≡ Some d → is_interface d.flags ≡ true → (b : Class)
+    × (class_named (world p) y ≡ Some b)
+
+-- On an object of a class file below an interface that a package knows, a method of the interface is dispatched by its
+-- place there as by the token that the class has for it in the package of its file.
+abbrev pub FacesDispatch : List Package → Type 0
+FacesDispatch packages = (q : ℕ) (p : Package) → slice_get packages q ≡ Some p → (y : List ℕ) (i : Class)
+    → class_named (world p) y ≡ Some i → is_interface i.flags ≡ true → (k : ℕ) (s : Signature)
+    → slice_get (interface_methods (world p) i) k ≡ Some s → (r : ℕ) (e : Package) → slice_get packages r ≡ Some e
+    → (x : List ℕ) (d : Class) → class_named (world e) x ≡ Some d → d.is_imported ≡ false
+    → is_interface d.flags ≡ false → Above (world_together packages) x y → (t : ℕ)
+    → token (slots (line_of (world e) x)) s ≡ Some t
+    → dispatched_interface (loaded_together packages) (Some (class_together packages x)) (class_together packages y) k
+    ≡ dispatched_open (tower (loaded_together packages) (class_together packages x)) t
 
 -- ---- maps
 

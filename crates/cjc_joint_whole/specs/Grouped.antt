@@ -8,12 +8,14 @@ use Rattle.cjc_joint_proof.specs.JointTables.{world_together}
 use Rattle.cjc_joint_proof.specs.Worlds.{outside_classes}
 use Rattle.cjc_jvm_semantics.specs.OnePackage.{is_initialiser}
 use Rattle.cjc_tokens.specs.Members.{is_exposed, is_virtual}
+use Rattle.cjc_vtable.specs.Meant.{HaveOneAccess}
 use Rattle.cjc_world.specs.Classes.{Class, Member, class_named, method_of_export}
 use Rattle.cjc_world.specs.ExportFile.declared.tree.ExportClass.{ExportClass}
 use Rattle.cjc_world.specs.ExportFile.declared.tree.ExportMethod.{ExportMethod}
 use Rattle.cjc_world.specs.Supertypes.{Lists}
 use Rattle.cjc_world.specs.Upwards.{IsOrdered}
 use Rattle.cjc_joint_whole.specs.Above.{FindsAbove}
+use Rattle.cjc_joint_whole.specs.Faces.{FacesSelect, InterfacesAreKnown}
 use Rattle.cjc_joint_whole.specs.Linking.{KeepGroupRules}
 use Rattle.cjc_joint_whole.specs.Selected.{SelectsAlone}
 
@@ -54,3 +56,8 @@ pub record AreGrouped (packages : List Package) : Type 0 where
   pub ordered : (q : ℕ) (p : Package) → slice_get packages q ≡ Some p → IsOrdered (world p)
   pub fair : OutsideIsFair packages
   pub open_interfaces : InterfacesAreOpen packages
+  -- What the code of each calls by invokeinterface it finds by itself, and no method is private beside public or
+  -- protected.
+  pub faces : (q : ℕ) (p : Package) → slice_get packages q ≡ Some p → FacesSelect p
+  pub access : (q : ℕ) (p : Package) → slice_get packages q ≡ Some p → HaveOneAccess (world p)
+  pub known : InterfacesAreKnown packages

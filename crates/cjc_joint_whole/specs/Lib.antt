@@ -9,3 +9,4 @@ pub mod Grouped
 pub mod ByModes
 pub mod Faces
 pub mod Sent
+pub mod SentFaces

@@ -44,7 +44,6 @@ use Rattle.cjc_joint_theorem.specs.Members.{Member, files_of, homes_of, images_o
 use Rattle.cjc_joint_theorem.specs.Ordered.{IsOutsideOrdered}
 use Rattle.cjc_joint_theorem.specs.Together.Homes.{joint_world}
 use Rattle.cjc_joint_theorem.specs.Together.Names.{IsNamedIn}
-use Rattle.cjc_joint_whole.specs.Entries.{MeantAreListed, VirtualAreOwn}
 
 -- A package of read files that was tested and breaks no rule, over sound export files which don't contradict one another
 -- and list no private method, and of interfaces no static one, with its tables; what its static image says is of sound
@@ -67,15 +66,12 @@ pub record IsWholeMember (p : Member) : Type 0 where
       → is_package_visible m.flags ≡ false
 
 -- The export file is the one that is written for a package of these files. The static methods and constructors that it
--- lists are those that the classes of the package declare, and it lists the public and protected virtual ones, and of
--- virtual methods these alone.
+-- lists are those that the classes of the package declare.
 pub record IsWrittenFor (files : Files) (t : ExportTree) : Type 0 where
   pub exporter : Package
   pub same_files : exporter.files ≡ files
   pub is : t ≡ export_of exporter
   pub unbound : UnboundAreOwn exporter
-  pub meant : MeantAreListed exporter
-  pub virtuals : VirtualAreOwn exporter
 
 -- An export file that the package at a place imports: the one that is written for a package before it, or one from
 -- outside.
@@ -92,6 +88,15 @@ pub record HasCodeWithin (w : List Class) (package_name x name desc : List ℕ) 
   pub is_hit : method_hit w place ≡ Some hit
   pub is_concrete : is_abstract hit.flags ≡ false
 
+-- A package-visible abstract method of a superclass in another package of a group has code in that package, where the class
+-- is not abstract (735).
+abbrev pub AreImplemented : List Files → Type 0
+AreImplemented group = (q j k n i : ℕ) (p m : Files) (t u : ClassTree) (x : MethodTree) → IsOwn group q k p t
+    → IsOwn group j n m u → (q ≡ j → ⊥) → is_interface t.flags ≡ false → is_abstract t.flags ≡ false
+    → OnLine (joint_world group) t.name (declared (before group j + n) u) → slice_get u.methods i ≡ Some x
+    → is_package_visible x.flags ≡ true → is_abstract x.flags ≡ true
+    → HasCodeWithin (joint_world group) m.package_name t.name x.name x.desc
+
 -- Such packages, whose names differ, and which import what is written for packages before them, and export files from
 -- outside, whose classes list what is of its kind. Their images tell fields of their own classes.
 pub record AreWhole (members : List Member) : Type 0 where
@@ -102,13 +107,8 @@ pub record AreWhole (members : List Member) : Type 0 where
       → (let f = p.files in slice_get f.exports k ≡ Some t) → IsExport members q t
   pub order : IsOutsideOrdered (files_of members)
   pub told : TellOwnFields (files_of members) (images_of members)
-  -- a package-visible abstract method of a superclass in another package has code in that package, where the class is
-  -- not abstract (735)
-  pub implemented : (q j k n i : ℕ) (p m : Files) (t u : ClassTree) (x : MethodTree) → IsOwn (files_of members) q k p t
-      → IsOwn (files_of members) j n m u → (q ≡ j → ⊥) → is_interface t.flags ≡ false → is_abstract t.flags ≡ false
-      → OnLine (joint_world (files_of members)) t.name (declared (before (files_of members) j + n) u)
-      → slice_get u.methods i ≡ Some x → is_package_visible x.flags ≡ true → is_abstract x.flags ≡ true
-      → HasCodeWithin (joint_world (files_of members)) m.package_name t.name x.name x.desc
+  -- 735
+  pub implemented : AreImplemented (files_of members)
   -- classes from outside list no package-visible method: export files have public and protected ones alone (Java Card
   -- Virtual Machine Specification 2.2.2, section 5.9), and no rule tests that
   pub shown : (k i : ℕ) (e : ExportClass) (m : ExportMethod) → slice_get (outside_classes (files_of members)) k ≡ Some e
@@ -131,19 +131,15 @@ pub record IsOfMember (members : List Member) (c : Class) : Type 0 where
 abbrev pub IsLeftVirtual : List Member → ResolvedMember → Type 0
 IsLeftVirtual members hit = let c = hit.owner in (is_interface c.flags ≡ true) ⊎ IsOfMember members c
 
--- Above the class that holds the code, also a package-visible one.
-abbrev pub IsLeftAbove : List Member → ResolvedMember → Type 0
-IsLeftAbove members hit = (is_package_visible hit.flags ≡ true) ⊎ IsLeftVirtual members hit
-
 module _ (members : List Member) {files : Files} {holder : List ℕ} {id : MemberId} {place : Found}
     {hit : ResolvedMember} where
-  -- What is called is such a method and selected by invokevirtual or above the class that holds the code, or it is
-  -- selected by invokeinterface: it is neither a constructor nor private.
+  -- What is called is such a method and selected by invokevirtual, or any that is selected by invokeinterface or above the
+  -- class that holds the code: it is neither a constructor nor private.
   abbrev pub IsSelecting : {op : ℕ} {class : List ℕ} {choice : List ℕ → Option Callee}
       → Chooses files holder id place hit op class choice → Type 0
   IsSelecting (on_class plain wanted) = IsLeftVirtual members hit
   IsSelecting (itself on special) = ⊥
-  IsSelecting (above_holder callee on plain is) = IsLeftAbove members hit
+  IsSelecting (above_holder callee on plain is) = Unit {0}
   IsSelecting (by_interface plain wanted) = Unit {0}
 
 module _ (members : List Member) {files : Files} {image : StaticImage} {near : List MemberId} {tables : Tables}

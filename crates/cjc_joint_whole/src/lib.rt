@@ -6,9 +6,11 @@
 pub mod above;
 pub mod exports;
 pub mod faces;
+pub mod implementing;
 pub mod linking;
 pub mod members;
 pub mod modes;
 pub mod selected;
 pub mod sent;
+pub mod sent_faces;
 pub mod tokens;

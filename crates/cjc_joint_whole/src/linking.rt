@@ -13,13 +13,16 @@ ghost use Rattle.cjc_jvm_semantics.specs.Group.{joint_image};
 ghost use Rattle.cjc_jvm_semantics.specs.Linked.{Method};
 ghost use Rattle.cjc_joint_whole.specs.Grouped.{AreGrouped};
 ghost use Rattle.cjc_joint_whole.specs.Linking.{KeepGroupRules};
-ghost use Rattle.cjc_joint_whole.specs.Selected.{JointInterfacesAgree, SelectTogether};
+ghost use Rattle.cjc_joint_whole.specs.Selected.{SelectTogether};
+ghost use Rattle.cjc_joint_whole.specs.Sent.{ObjectsAreSentAlike};
 ghost use Rattle.cjc_joint_whole.specs.Tokens.{stands_at};
 ghost use Rattle.cjc_token_proof.specs.CardSemantics.Machine.ByToken.{run as run_by_token};
 ghost use Rattle.cjc_token_proof.specs.Script.declared.report.Outcome.TheVariants.{Stuck};
 ghost use Rattle.cjc_token_proof.specs.Script.declared.script.Script.{Script};
 
+use crate::faces::{joint_faces_dispatch, joint_interface_methods_are_selected};
 use crate::selected::selected_components_run_alike;
+use crate::sent::joint_objects_are_sent_alike;
 use cjc_group::packages_agree;
 
 /// Packages that break no rule together link with one another: what each imports is what is written for a package before
@@ -41,17 +44,20 @@ pub fn grouped_packages_select_together()
 }
 
 /// And their components, loaded together, give the report of their narrow code, for every script and every number of
-/// instructions where that is not stuck, where calls of methods of interfaces agree and what scripts send.
+/// instructions where that is not stuck, where what scripts send to objects of class files agrees.
 pub fn grouped_components_run_alike()
     ensures { (packages : List Package) (first : Package) → slice_get packages 0 ≡ Some first → AreGrouped packages
         → (let files = files_together packages in let image = joint_image (all_images packages) in
         let at = stands_at first packages in let code = λ (m : Method). (let p = at m in p.method) in
-        JointInterfacesAgree packages at → (script : Script) (n : ℕ)
+        ObjectsAreSentAlike packages at → (script : Script) (n : ℕ)
         → ((place : ℕ) → (let r = run_in_packages (joint_named files image code) (joint_labels files code) script n
         in r.outcome) ≢ Stuck place)
         → run_by_token (loaded_together packages) script n
         ≡ run_in_packages (joint_named files image code) (joint_labels files code) script n) }
 {
     grouped_packages_select_together();
+    joint_faces_dispatch();
+    joint_interface_methods_are_selected();
+    joint_objects_are_sent_alike();
     selected_components_run_alike();
 }

@@ -13,7 +13,7 @@ ghost use Rattle.cjc_joint_theorem.specs.Members.{files_of, homes_of, images_of,
 ghost use Rattle.cjc_joint_theorem.specs.Ordered.{AreOrdered};
 ghost use Rattle.cjc_joint_theorem.specs.Together.Calls.{IsStaticIn};
 ghost use Rattle.cjc_joint_theorem.specs.Together.Homes.{joint_world, own_codes};
-ghost use Rattle.cjc_joint_whole.specs.Told.{IsToldAbove, RestStands};
+ghost use Rattle.cjc_joint_whole.specs.Told.{IsToldAbove};
 ghost use Rattle.cjc_joint_whole.specs.Whole.{AreWhole, SelectionsStand};
 ghost use Rattle.cjc_narrow_proof.specs.Runs.Calls.{IsStaticOn};
 ghost use Rattle.cjc_token_proof.specs.CardSemantics.Bytecode.Runs.{Agree};
@@ -62,12 +62,11 @@ pub fn opened_methods_have_code()
         → is_abstract h.flags ≡ false }
 {}
 
-/// Where what stands above classes and interfaces is told, public and protected methods that code selects by
-/// invokevirtual and invokeinterface stand for what the joint world has, whichever class or interface declares them. Left
-/// are some above the class that holds the code.
+/// Where what stands above classes and interfaces is told, the methods that code selects by invokevirtual and
+/// invokeinterface, and by invokespecial above the class that holds the code, stand for what the joint world has,
+/// whichever class or interface declares them.
 pub fn told_methods_are_selected()
-    ensures { (members : List Member) → AreWhole members → IsToldAbove members → RestStands members
-        → SelectionsStand members }
+    ensures { (members : List Member) → AreWhole members → IsToldAbove members → SelectionsStand members }
 {}
 
 /// Each method that scripts name is one of a class file of a package, with code that is begun by the tables of that
@@ -76,11 +75,11 @@ pub fn scripts_name_methods()
     ensures { (members : List Member) → AreWhole members → AreScripted members }
 {}
 
-/// So for every script the joint run by name and that of their narrow code agree, where the methods that their code
-/// selects stand for what the joint world has.
+/// So for every script the joint run by name and that of their narrow code agree, where what stands above classes and
+/// interfaces is told.
 pub fn whole_members_run_together()
     ensures { (members : List Member) (first : Member) → slice_get members 0 ≡ Some first → AreWhole members
-        → SelectionsStand members → (script : Script)
+        → IsToldAbove members → (script : Script)
         → (let codes = own_codes (homes_of members) (tables_of members) in
         Agree 2 (λ n. run_group (files_of members) (images_of members) script n)
         (λ n. run_in_packages (joint_named (files_of members) (joint_image (images_of members)) codes)

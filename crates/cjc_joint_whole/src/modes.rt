@@ -7,6 +7,7 @@ ghost use Rattle.cjc_int_components.specs.Modes.{Tables};
 ghost use Rattle.cjc_int_theorem.specs.ByModes.{IsConvertedByModes};
 ghost use Rattle.cjc_joint_whole.specs.Above.{FindsAbove, ImportsKeepKinds};
 ghost use Rattle.cjc_joint_whole.specs.ByModes.{IsWrittenByModes};
+ghost use Rattle.cjc_joint_whole.specs.Faces.{InterfacesAreKnown};
 ghost use Rattle.cjc_joint_whole.specs.Grouped.{AreGrouped, InterfacesAreOpen, OutsideIsFair};
 ghost use Rattle.cjc_joint_whole.specs.Linking.{KeepGroupRules};
 ghost use Rattle.cjc_joint_whole.specs.Selected.{SelectsAlone};
@@ -17,6 +18,7 @@ ghost use Rattle.cjc_token_proof.specs.List.Listed.{ListTree};
 ghost use Rattle.cjc_token_proof.specs.WrittenSends.Sends.{ExportsSend};
 
 use crate::exports::checked_packages_list_virtual_methods;
+use crate::faces::packages_of_files_name_faces;
 use cjc_int_components::packages::methods_by_modes_take_their_words;
 use cjc_int_theorem::joined::{packages_by_modes_are_joined, packages_by_modes_are_of_files};
 use cjc_int_theorem::written::packages_by_modes_are_runnable;
@@ -51,11 +53,14 @@ pub fn packages_by_modes_select_alone()
     packages_by_modes_run_alone();
 }
 
-/// So packages by modes that a group links, over fair files from outside, need nothing else to run together.
+/// So packages by modes that a group links, over fair files from outside, need nothing else to run together than to know
+/// what interfaces stand above those that their classes list.
 pub fn packages_by_modes_are_grouped()
     ensures { (packages : List Package) → KeepGroupRules packages
         → ((q : ℕ) (p : Package) → slice_get packages q ≡ Some p → IsWrittenByModes p) → OutsideIsFair packages
-        → InterfacesAreOpen packages → AreGrouped packages }
+        → InterfacesAreOpen packages → InterfacesAreKnown packages → AreGrouped packages }
 {
+    packages_by_modes_are_of_files();
     packages_by_modes_select_alone();
+    packages_of_files_name_faces();
 }

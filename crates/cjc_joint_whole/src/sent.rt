@@ -9,6 +9,7 @@ ghost use Rattle.cjc_joint_proof.specs.JointTables.{world_together};
 ghost use Rattle.cjc_joint_proof.specs.JointTowers.{loaded_together};
 ghost use Rattle.cjc_joint_proof.specs.Worlds.{before};
 ghost use Rattle.cjc_joint_whole.specs.Selected.{InterfacesSelectAlike, JointInterfacesAgree, SelectTogether};
+ghost use Rattle.cjc_joint_whole.specs.Sent.{FoundAreSentAlike, LinesAreFoundAlike, LinesBindSpecials};
 ghost use Rattle.cjc_joint_whole.specs.Sent.{ObjectsAreSentAlike, begun};
 ghost use Rattle.cjc_jvm_semantics.specs.Group.{is_open, joint, own_where, own_within};
 ghost use Rattle.cjc_jvm_semantics.specs.Linked.{Method};
@@ -72,6 +73,22 @@ pub fn joint_tokens_are_sent()
         packages x)) (Hidden home number))
         ≡ begun packages at (option_and_then (method_at (joint (files_together packages))) (first (own_within (let f
         = p.files in f.package_name) id.name id.desc) (line (world_together packages) x))) }
+{
+    dispatch_laws();
+    layouts_are_laid_out();
+    token_laws();
+}
+
+/// What is found over superclasses from a class that is no interface is found alike by name and by token, and what a
+/// script sends by it begins by token where it begins by name; of a constructor or a class initialiser no token is
+/// found.
+pub fn joint_lines_are_sent()
+    ensures lines { (packages : List Package) → SelectTogether packages → (at : Method → Placed)
+        → StandByPackage packages at → LinesAreFoundAlike packages at }
+    ensures found { (packages : List Package) → SelectTogether packages → (at : Method → Placed)
+        → StandByPackage packages at → FoundAreSentAlike packages at }
+    ensures specials { (packages : List Package) → SelectTogether packages → (at : Method → Placed)
+        → StandByPackage packages at → LinesBindSpecials packages at }
 {
     dispatch_laws();
     layouts_are_laid_out();

@@ -42,13 +42,14 @@ use Rattle.cjc_world.specs.Lookup.{is_called, is_selectable}
 use Rattle.cjc_world.specs.Subtype.{is_subtype}
 use Rattle.cjc_world.specs.Supertypes.{AreSupertypes, supertypes}
 use Rattle.cjc_world.specs.Upwards.{Below, IsOrdered, OnLine}
-use Rattle.cjc_joint_whole.specs.Told.{AboveAreListed, FacesListAbove, HasOpenEntry, IsDeclaredAbove}
+use Rattle.cjc_joint_whole.specs.Told.{AboveAreListed, HasOpenEntry, IsDeclaredAbove}
 use Rattle.cjc_joint_whole.proofs.WholeLaws.DeclaredAbove.{exported_named}
 use Rattle.cjc_joint_whole.proofs.WholeLaws.Exposed.{stands_once}
 use Rattle.cjc_joint_whole.proofs.WholeLaws.HiddenStands.{no_static}
 use Rattle.cjc_joint_whole.proofs.WholeLaws.OwnKept.{IsKeptBy, no_initialiser}
 use Rattle.cjc_joint_whole.proofs.WholeLaws.Shown.{SelectsBy, open_parts, parts_open, shows_at, shows_here}
 use Rattle.cjc_joint_whole.proofs.WholeLaws.TokenMeans.{token_means}
+use Rattle.cjc_joint_whole.proofs.WholeLaws.ToldFaces.{faces_list_above}
 use Rattle.cjc_joint_whole.proofs.WholeLaws.VirtualEntries.{meant_are_listed}
 
 shown_parts : (m : WorldMember) → is_shown m ≡ true → is_open m.flags ≡ true
@@ -191,6 +192,6 @@ module _ (p : Package) (kept : IsKeptBy p.files) where
             opened = shown_parts n o.shown;
           }
 
-  pub above_are_listed : FacesListAbove p → AboveAreListed p
-  above_are_listed faces k c name desc at ordinary d kind = ⊎_elim (λ it. faces k c name desc at it ordinary d (kind it))
-      (λ ground. of_class k c name desc at ordinary d ground) (true_or_false (is_interface c.flags))
+  pub above_are_listed : AboveAreListed p
+  above_are_listed k c name desc at ordinary d kind = ⊎_elim (λ it. faces_list_above p kept k c name desc at it
+      ordinary d (kind it)) (λ ground. of_class k c name desc at ordinary d ground) (true_or_false (is_interface c.flags))

@@ -2,10 +2,10 @@
 -- it in the world of its package too: in that interface, or in an entry of an export file on the way.
 use Rattle.std.proofs.Common.{◌≡◌, ◌<◌, ◌+◌, ℕ, zero, suc, refl, sym, ap, subst, ◌∙◌, arith, true, false, List, [], ◌∷◌}
 use Rattle.std.proofs.Common.{◌++◌, Some, inl, inr, ⊎_elim}
-use Rattle.std.specs.Prelude.{◌||◌, Bool, None, Option, option_map, slice_get}
-use Rattle.std.specs.List.{list_any}
+use Rattle.std.specs.Prelude.{option_map, slice_get}
 use Rattle.std.proofs.lemmas.Option.{slice_get-map}
 use Rattle.cjc_bytes.specs.AccessFlags.{is_interface}
+use Rattle.cjc_bytes.proofs.Bools.{true_not_false, true_or_false}
 use Rattle.cjc_bytes.proofs.Gets.{mapped_at}
 use Rattle.cjc_components.specs.ExportFile.{export_class}
 use Rattle.cjc_components.specs.Exports.{exported_classes}
@@ -21,13 +21,11 @@ use Rattle.cjc_world.specs.ExportFile.declared.tree.ExportClass.{ExportClass}
 use Rattle.cjc_world.specs.ExportFile.declared.tree.ExportTree.{ExportTree}
 use Rattle.cjc_world.specs.Files.{Files}
 use Rattle.cjc_world.specs.Lookup.{object}
-use Rattle.cjc_world.specs.Rules.{is_missing, is_none_of, lists_missing}
-use Rattle.cjc_world.specs.Supertypes.{Above, Lists, after, directly, foremost, onwards}
+use Rattle.cjc_world.specs.Supertypes.{Above, Lists, directly, onwards}
 use Rattle.cjc_world.specs.Upwards.{Below, IsOrdered}
 use Rattle.cjc_world.proofs.Cycles.{above-class, class_named-name}
 use Rattle.cjc_world.proofs.Trees.{lists-split}
-use Rattle.cjc_world.proofs.UpwardLaws.Lines.{listed_below, no_list}
-use Rattle.cjc_token_proof.proofs.TablesLaws.Clean.{has_named, kept}
+use Rattle.cjc_world.proofs.UpwardLaws.Lines.{listed_below}
 use Rattle.cjc_shape_proof.proofs.WritingLaws.Flags.{interface_kept}
 use Rattle.cjc_token_proof.specs.Subset.Members.{imports}
 use Rattle.cjc_joint_proof.specs.Worlds.{AreApart, IsOwn, before}
@@ -36,41 +34,21 @@ use Rattle.cjc_joint_proof.proofs.SoundLaws.{apart}
 use Rattle.cjc_joint_proof.proofs.WorldLaws.{own_is_found}
 use Rattle.cjc_joint_theorem.specs.Members.{Member, files_of}
 use Rattle.cjc_joint_theorem.specs.Together.Homes.{joint_world}
-use Rattle.cjc_joint_theorem.proofs.MembersLaws.Worlds.{files_at}
-use Rattle.cjc_joint_theorem.proofs.OrderedLaws.Ordered.{IsJoint, joint_class, object_abroad}
+use Rattle.cjc_joint_theorem.proofs.OrderedLaws.Ordered.{IsJoint, interface_there, joint_class, object_abroad}
 use Rattle.cjc_joint_theorem.proofs.OrderedLaws.Ordered.{outside_file, own_file, super_there}
-use Rattle.cjc_joint_whole.specs.Told.{HasOpenEntry, IsDeclaredAbove, IsToldAbove}
+use Rattle.cjc_joint_whole.specs.Told.{HasOpenEntry, HasOpenMethod, IsDeclaredAbove, IsToldAbove}
 use Rattle.cjc_joint_whole.specs.Whole.{AreWhole, IsExport, IsWrittenFor, from_outside, of_member}
 use Rattle.cjc_joint_whole.proofs.WholeLaws.AboveListed.{above_are_listed}
 use Rattle.cjc_joint_whole.proofs.WholeLaws.Exposed.{named_here, own_here}
 use Rattle.cjc_joint_whole.proofs.WholeLaws.Imports.{exported}
 use Rattle.cjc_joint_whole.proofs.WholeLaws.Members.{ordered_together}
 use Rattle.cjc_joint_whole.proofs.WholeLaws.OwnKept.{IsKeptBy, kept_at}
+use Rattle.cjc_joint_whole.proofs.WholeLaws.Shown.{open_parts}
 use Rattle.cjc_joint_whole.proofs.WholeLaws.Solid.{solid_at}
+use Rattle.cjc_joint_whole.proofs.WholeLaws.ToldOutside.{lists_above}
 
 same_class : {c d : Class} → Some c ≡ Some d → c ≡ d
 same_class e = cc
-
--- 203: each name of a list is there
-listed_there : (w : List Class) (xs : List (List ℕ)) (y : List ℕ) → list_any (λ x. is_missing w x) xs ≡ false
-    → Lists y xs → (d : Class) × (class_named w y ≡ Some d)
-listed_there w (x ∷ xs) _ e foremost = by (class_named w x) refl e
-  where
-    by : (o : Option Class) → class_named w x ≡ o → (is_none_of o || list_any (λ x. is_missing w x) xs) ≡ false
-        → (d : Class) × (class_named w x ≡ Some d)
-    by None f e = absurd cc
-    by (Some d) f e = (d, f)
-listed_there w (x ∷ xs) y e (after l) = listed_there w xs y (by (is_missing w x) (list_any (λ x. is_missing w x) xs) e)
-    l
-  where
-    by : (a b : Bool) → (a || b) ≡ false → b ≡ false
-    by true b e = absurd cc
-    by false b e = e
-listed_there w [] y e l = no_list l
-
-back_there : (a b : Bool) → (a || b) ≡ false → b ≡ false
-back_there true b e = absurd cc
-back_there false b e = e
 
 module _ (members : List Member) (is : AreWhole members) (tell : IsToldAbove members) where
   abbrev group : List Files
@@ -90,25 +68,43 @@ module _ (members : List Member) (is : AreWhole members) (tell : IsToldAbove mem
     SeenIn f x flags = (d : IsDeclaredAbove (all_classes f) x m.name m.desc) × (is_interface flags ≡ true
         → (let y = d.class in is_interface y.flags) ≡ true)
 
-    -- java/lang/Object has none
-    pub no_object : Below w object z.name → ⊥
-    no_object way =
-        let r = of_root in
-        by r.0 r.1 (joint_class group object r.0 r.1) (object_abroad group (ordered_together members is) r.0 r.1) way
+    -- java/lang/Object is from outside, and lists what an interface above it has
+    pub of_root : Below w object z.name → (o : Class) × (class_named w object ≡ Some o) × HasOpenMethod o m.name m.desc
+    of_root way =
+        let r = root in
+        by r.0 r.1 (joint_class group object r.0 r.1) (object_abroad group (ordered_together members is) r.0 r.1)
       where
-        of_root : (o : Class) × (class_named w object ≡ Some o)
-        of_root = ⊎_elim (λ same. (z, ap (class_named w) same ∙ named_z)) (λ far. above-class w object z.name far) way
+        root : (o : Class) × (class_named w object ≡ Some o)
+        root = ⊎_elim (λ same. (z, ap (class_named w) same ∙ named_z)) (λ far. above-class w object z.name far) way
 
-        by : (o : Class) → class_named w object ≡ Some o → IsJoint group o → o.is_imported ≡ true → Below w object z.name
-            → ⊥
-        by _ named (own_file q k p t own) imp way = cc
-        by _ named (outside_file k e kept) imp way =
+        by : (o : Class) → class_named w object ≡ Some o → IsJoint group o → o.is_imported ≡ true
+            → (o : Class) × (class_named w object ≡ Some o) × HasOpenMethod o m.name m.desc
+        by _ named (own_file q k p t own) imp = absurd cc
+        by _ named (outside_file k e kept) imp =
             let name : e.name ≡ object = class_named-name w object (imported k e) named in
-            let h = tell.asked k i e z m kept named_z it (subst (λ a. Below w a z.name) (sym name) way) there open_one in
-            let y = h.entry in
-            tell.objects (imported k e) z h.place i (method_of_export y) m named named_z it
-            (slice_get-map method_of_export e.methods h.place ∙ ap (option_map method_of_export) h.there) there open_one
-            h.has_name h.has_desc
+            let h = lists_above members is tell.asked k i e z m kept named_z it (subst (λ a. Below w a z.name) (sym name)
+            way) there open_one in (
+              imported k e,
+              named,
+              record {
+                place = h.place;
+                method = method_of_export h.entry;
+                there = slice_get-map method_of_export e.methods h.place ∙ ap (option_map method_of_export) h.there;
+                has_name = h.has_name;
+                has_desc = h.has_desc;
+                opened = h.opened;
+              },
+            )
+
+    -- so an interface of a package that is below one through java/lang/Object has one itself
+    has_itself : (c : Class) → class_named w c.name ≡ Some c → c.is_imported ≡ false → is_interface c.flags ≡ true
+        → Above w c.name z.name → Below w object z.name → HasOpenMethod c m.name m.desc
+    has_itself c named own face far way =
+        let r = of_root way in
+        let o = r.2 in
+        let y = o.method in
+        tell.objects c z r.0 i o.place m y named own face named_z it far there open_one r.1 o.there (open_parts y.flags
+        o.opened).1 o.has_name o.has_desc
 
     module _ (q : ℕ) (p : Member) (at : slice_get members q ≡ Some p) (before_it : (j : ℕ) → j < q → (g : Member)
         → slice_get members j ≡ Some g → (x : List ℕ) (c : Class) → class_named (all_classes g.files) x ≡ Some c
@@ -150,7 +146,7 @@ module _ (members : List Member) (is : AreWhole members) (tell : IsToldAbove mem
           let seen = before_it j less g at_g tree.name (declared o.number tree) (named_here members is j g at_g o.number
           tree o.file) (subst (λ a. Below w a z.name) (sym o.same_name) way) in
           let kept = subst IsKeptBy (sym written.same_files) (kept_at members is j g at_g) in
-          let told = above_are_listed x kept (tell.written j g t at_g written) in
+          let told = above_are_listed x kept in
           let d = r.0 in
           let name : tree.name ≡ d.name = o.same_name ∙ sym (ap (λ (u : ExportClass). u.name) r.2) in
           let kind : is_interface d.flags ≡ is_interface tree.flags = sym (interface_kept d.flags
@@ -167,7 +163,7 @@ module _ (members : List Member) (is : AreWhole members) (tell : IsToldAbove mem
           of_entry n e named (of_written e way j g less at_g t written k listed)
       of_export n e named way t k listed (from_outside r kept) =
           let all = flat_at (λ (u : ExportTree). u.classes) (joint_exports group) r k t e kept listed in
-          of_entry n e named (tell.asked all.0 i e z m all.1 named_z it way there open_one)
+          of_entry n e named (lists_above members is tell.asked all.0 i e z m all.1 named_z it way there open_one)
 
       of_import : (n : ℕ) (e : ExportClass) → (let f = p.files in slice_get (imports f.exports) n ≡ Some e)
           → (x : List ℕ) → class_named v x ≡ Some (imported n e) → Below w x z.name → SeenIn p.files x e.flags
@@ -216,15 +212,6 @@ module _ (members : List Member) (is : AreWhole members) (tell : IsToldAbove mem
         in_joint : class_named w x ≡ Some (declared (before group q + n) t)
         in_joint = ap (class_named w) (sym name) ∙ own_is_found group are_apart q n p.files t mine
 
-        interface_there : (s : List ℕ) → Lists s t.interfaces → (d : Class) × (class_named v s ≡ Some d)
-        unfolding lists_missing
-        interface_there s l =
-            let sound = is.sound.each q p.files (files_at members q p at) in
-            let rules = kept sound.list p.files sound.sound (declared n t) (has_named v t.name (declared n t)
-            (named_here members is q p at n t file)) in
-            listed_there v t.interfaces s (back_there (list_any (λ x. is_missing v x) (t.superclass ∷ []))
-            (list_any (λ x. is_missing v x) t.interfaces) (rules.there refl)) l
-
         -- over a name that it lists
         over : (s : List ℕ) → Lists s (t.superclass ∷ t.interfaces) → Below w s z.name → ((d : Class)
             → class_named v s ≡ Some d → SeenIn p.files s d.flags) → SeenIn p.files x t.flags
@@ -250,12 +237,33 @@ module _ (members : List Member) (is : AreWhole members) (tell : IsToldAbove mem
             of_super : Lists s (t.superclass ∷ []) → SeenIn p.files x t.flags
             of_super k =
                 let d = super_there group (ordered_together members is) q n p.files t mine s k in
-                lifted d.0 d.1 (next d.0 d.1) (λ f. absurd (no_object (subst (λ a. Below w a z.name)
-                (order.only_object x s (declared n t) named f k) way)))
+                ⊎_elim (λ f. by_itself k f) (λ flat. lifted d.0 d.1 (next d.0 d.1) (λ f. absurd (true_not_false
+                (is_interface t.flags) f flat))) (true_or_false (is_interface t.flags))
+              where
+                by_itself : Lists s (t.superclass ∷ []) → is_interface t.flags ≡ true → SeenIn p.files x t.flags
+                by_itself k f =
+                    let root : s ≡ object = order.only_object x s (declared n t) named f k in
+                    let c = declared (before group q + n) t in
+                    let at_c : class_named w t.name ≡ Some c = ap (class_named w) name ∙ in_joint in
+                    let far : Above w t.name z.name = ⊎_elim (λ same. directly c at_c (subst (λ y. Lists y (t.superclass
+                    ∷ t.interfaces)) same l)) (λ more. onwards c at_c l more) way in
+                    let r = has_itself c at_c refl f far (subst (λ y. Below w y z.name) root way) in
+                    let from : IsDeclaredAbove v x m.name m.desc = record {
+                      class = declared n t;
+                      named = ap (class_named v) name ∙ named;
+                      below = inl (sym name);
+                      place = r.place;
+                      method = r.method;
+                      there = r.there;
+                      has_name = r.has_name;
+                      has_desc = r.has_desc;
+                      opened = r.opened;
+                    } in
+                    (from, λ g. f)
 
             of_interface : Lists s t.interfaces → SeenIn p.files x t.flags
             of_interface k =
-                let d = interface_there s k in
+                let d = interface_there group (ordered_together members is) q n p.files t mine s k in
                 lifted d.0 d.1 (next d.0 d.1) (λ f. order.interfaces x s (declared n t) d.0 named k d.1)
 
       go : (x y : List ℕ) → Above w x y → y ≡ z.name → (c : Class) → class_named v x ≡ Some c

@@ -218,11 +218,11 @@ module _ (members : List Member) (is : AreWhole members) where
           (ap (λ y. bytes_eq y home) (package_is home t.name (are_apart.own r k o.files t (own_here members is r o at k
           t file))) ∙ name_is home)
 
-      selects_here : (m k : ℕ) (t : ClassTree) → (let f = o.files in slice_get f.classes k ≡ Some t)
+      pub selects_here : (m k : ℕ) (t : ClassTree) → (let f = o.files in slice_get f.classes k ≡ Some t)
           → unseen (declared m t) ≡ selecting (declared m t)
       selects_here m k t file = unseen_here m k t file ∙ sym (one_search (declared m t))
 
-      asks_alike : (c : Class) → class_named v c.name ≡ Some c → c.is_imported ≡ false → unseen c ≡ selecting c
+      pub asks_alike : (c : Class) → class_named v c.name ≡ Some c → c.is_imported ≡ false → unseen c ≡ selecting c
       asks_alike c named mine =
           let t = solid.own c.name c named mine in
           subst (λ (d : Class). unseen d ≡ selecting d) (sym t.2) (selects_here c.number c.number t.0 t.1)
@@ -361,7 +361,7 @@ module _ (members : List Member) (is : AreWhole members) where
             (one.0, selects_here (b + n) n a file ∙ one.1)
 
         -- a method of a class of the package at or below it that can be selected is package-visible too (305)
-        visible : (k : ℕ) (t : ClassTree) → (let f = o.files in slice_get f.classes k ≡ Some t)
+        pub visible : (k : ℕ) (t : ClassTree) → (let f = o.files in slice_get f.classes k ≡ Some t)
             → OnLine v t.name (declared n a) → (j : ℕ) (z : WorldMember) → slice_get (declared k t).methods j ≡ Some z
             → z.name ≡ id.name → z.desc ≡ id.desc → is_selectable z.flags ≡ true → is_package_visible z.flags ≡ true
         visible k t tree on j z at_z z_name z_desc z_may = go t.name (declared n a) on refl refl

@@ -66,6 +66,7 @@ use Rattle.cjc_joint_whole.proofs.WholeLaws.Owners.{MetInFile, own_met, owner_of
 use Rattle.cjc_joint_whole.proofs.WholeLaws.Reached.{IsReached}
 use Rattle.cjc_joint_whole.proofs.WholeLaws.Receivers.{receiver_in}
 use Rattle.cjc_joint_whole.proofs.WholeLaws.Solid.{solid_at}
+use Rattle.cjc_joint_whole.proofs.WholeLaws.ToldTested.{virtuals_of}
 
 -- what can be selected is not static
 pub no_static : (flags : ℕ) → is_selectable flags ≡ true → is_static flags ≡ false
@@ -114,7 +115,8 @@ module _ (members : List Member) (is : AreWhole members) where
         let d = r.0 in
         let d_ground : is_interface d.flags ≡ false = sym (interface_kept d.flags (is_shareable (world x) d))
         ∙ ap (λ (u : ExportClass). is_interface u.flags) r.2 ∙ ground in
-        let own = written.virtuals k i d y r.1 d_ground (ap (λ (u : ExportClass). slice_get u.methods i) r.2 ∙ there)
+        let own = virtuals_of members is j m at_m t written k i d y r.1 d_ground (ap (λ (u : ExportClass).
+        slice_get u.methods i) r.2 ∙ there)
         (special_off (is_static y.flags) (is_constructor y.name) (no_static y.flags may) ordinary) in
         let flags : (let z = own.member in z.flags) ≡ y.flags = ap (λ (u : ExportMethod). u.flags) own.is in
         seen_by y.flags (sym (ap is_exposed flags) ∙ own.exposed)

@@ -142,7 +142,7 @@ module _ (members : List Member) (is : AreWhole members) (tell : IsToldAbove mem
           ((let k = t.0 in k.superclass), ap (λ (d : Class). d.supers) t.2)
 
       -- an imported class lists such methods alone
-      open_abroad : (x : List ℕ) (d : Class) → class_named v x ≡ Some d → d.is_imported ≡ true → is_interface d.flags
+      pub open_abroad : (x : List ℕ) (d : Class) → class_named v x ≡ Some d → d.is_imported ≡ true → is_interface d.flags
           ≡ false → (i : ℕ) (m : WorldMember) → slice_get d.methods i ≡ Some m → m.name ≡ id.name → is_selectable m.flags
           ≡ true → is_open m.flags ≡ true
       open_abroad x d named imp ground i m there name may = by d (filed p.files x d named) imp ground there

@@ -1,8 +1,8 @@
 -- The fields and objects that reached instructions of packages name, and static methods, constructors and private
 -- methods, stand for what the joint world has.
 use Rattle.std.proofs.Common.{◌≡◌, ℕ, arith, Bool, true, false, List, Option, Some, refl, sym, ap, subst, ◌∙◌, inl, inr}
-use Rattle.std.specs.Prelude.{◌⊎◌, ◌||◌}
-use Rattle.cjc_bytes.specs.AccessFlags.{is_interface, is_private, is_static}
+use Rattle.std.specs.Prelude.{◌⊎◌}
+use Rattle.cjc_bytes.specs.AccessFlags.{is_interface}
 use Rattle.cjc_bytes.specs.declared.fault.MemberId.{MemberId}
 use Rattle.cjc_components.specs.Bytecode.declared.insn.JOp.{JOp}
 use Rattle.cjc_components.specs.Bytecode.declared.insn.JOp.TheVariants as jop
@@ -34,9 +34,8 @@ use Rattle.cjc_joint_theorem.specs.Together.Calls.{IsReceiverIn, IsStaticIn}
 use Rattle.cjc_joint_theorem.specs.Together.Homes.{group_look_ups, joint_world}
 use Rattle.cjc_joint_theorem.specs.Together.Names.{IsInstanceIn, IsNamedIn}
 use Rattle.cjc_joint_theorem.specs.Together.Names as names
-use Rattle.cjc_joint_whole.specs.Whole.{AreWhole, IsLeftAbove, IsLeftVirtual, IsOfMember, IsSelecting}
+use Rattle.cjc_joint_whole.specs.Whole.{AreWhole, IsLeftVirtual, IsOfMember, IsSelecting}
 use Rattle.cjc_joint_whole.specs.Whole.{IsSelectingCall, SelectionsStand}
-use Rattle.cjc_joint_whole.proofs.WholeLaws.AboveCalls.{above_or_not}
 use Rattle.cjc_joint_whole.proofs.WholeLaws.Fields.{files_are, has_field, same_field}
 use Rattle.cjc_joint_whole.proofs.WholeLaws.FixedCalls.{itself_stands, static_stands}
 use Rattle.cjc_joint_whole.proofs.WholeLaws.HiddenStands.{hidden_stands}
@@ -134,27 +133,6 @@ module _ (members : List Member) (is : AreWhole members) (p : Member) (m : Metho
           either (inl shared) = rest (inr shared)
           either (inr h) = stands h
 
-  -- a call by invokespecial of what stands above the class that holds the code
-  above_stands : (id : MemberId) → IsReached p.files (let one = is.each q p at in one.codes) m (jop.Call 0xB7 id) t
-      → (c : calls.IsCallee p.files id) → (let hit = c.hit in is_static hit.flags) ≡ false
-      → (let hit = c.hit in is_constructor id.name || is_private hit.flags) ≡ false
-      → (IsLeftAbove members c.hit → Together (jop.Call 0xB7 id)) → Together (jop.Call 0xB7 id)
-  above_stands id r c ground plain rest = by (is_package_visible (let hit = c.hit in hit.flags)) refl
-      (is_interface (let hit = c.hit in let o = hit.owner in o.flags)) refl
-    where
-      by : (a : Bool) → is_package_visible (let hit = c.hit in hit.flags) ≡ a → (b : Bool)
-          → is_interface (let hit = c.hit in let o = hit.owner in o.flags) ≡ b → Together (jop.Call 0xB7 id)
-      by true e b f = rest (inl e)
-      by false e true f = rest (inr (inl f))
-      by false e false f = either (above_or_not members is q p at m t id r c ground plain e f)
-        where
-          either : (let hit = c.hit in IsOfMember members hit.owner)
-              ⊎ IsReceiverIn group l (homes_of members) (tables_of members) p.files (let n = m.id in n.class) stack 0xB7
-              id → Together (jop.Call 0xB7 id)
-          either (inl shared) = rest (inr (inr shared))
-          either (inr h) = names.a_call_on_receiver (subst (λ f. IsReceiverIn group l (homes_of members)
-              (tables_of members) f (let n = m.id in n.class) stack 0xB7 id) (sym (files_are members is p m at)) h)
-
   -- a call on a receiver, of a method that is selected or not
   call_stands : (op : ℕ) (id : MemberId) → IsReached p.files (let one = is.each q p at in one.codes) m (jop.Call op id)
       t → ((h : Alone (jop.Call op id)) → IsSelectingCall members h → Together (jop.Call op id))
@@ -171,7 +149,7 @@ module _ (members : List Member) (is : AreWhole members) (p : Member) (m : Metho
           members) (tables_of members) f (let n = m.id in n.class) stack 0xB7 id) (sym (files_are members is p m at))
           (itself_stands members is q p at (let one = is.each q p at in one.codes) m t id r h.method ground special
           (let n = m.id in n.class)))
-      by (calls.above_holder callee ground plain chosen) r rest = above_stands id r h.method ground plain rest
+      by (calls.above_holder callee ground plain chosen) r rest = rest tt
       by (calls.by_interface plain wanted) r rest = rest tt
 
   -- a reached instruction that selects no method

@@ -79,7 +79,7 @@ package_with packages q f at =
     let k = mapped_at member_of packages q m.0 m.1 in
     (k.0, k.1, sym (ap (λ (m : Member). m.files) k.2 ∙ m.2))
 
-files_at : (packages : List Package) (q : ℕ) (p : Package) → slice_get packages q ≡ Some p
+pub files_at : (packages : List Package) (q : ℕ) (p : Package) → slice_get packages q ≡ Some p
     → slice_get (files_together packages) q ≡ Some p.files
 files_at packages q p here =
     get_mapped (λ (m : Member). m.files) (group_of packages) q

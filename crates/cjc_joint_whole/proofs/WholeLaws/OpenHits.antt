@@ -123,7 +123,7 @@ module _ (files : Files) (order : IsOrdered (all_classes files)) (x : List ℕ) 
           at_one r.0 g.3 r.2
 
 -- a class that declares none of a name and descriptor has none
-none_chosen : (s : Signature) (c : Class) → own_method false s.name s.desc c ≡ None
+pub none_chosen : (s : Signature) (c : Class) → own_method false s.name s.desc c ≡ None
     → chosen any_method s c.methods ≡ None
 unfolding own_method
 none_chosen s c none = by (chosen any_method s c.methods) refl

@@ -16,9 +16,6 @@ use Rattle.cjc_jvm_semantics.specs.Group.{is_open, own_where}
 use Rattle.cjc_jvm_semantics.specs.OnePackage.{ResolvedMember, is_initialiser, method_hit}
 use Rattle.cjc_tokens.specs.Members.{Signature}
 use Rattle.cjc_vtable.specs.Calls.{is_special}
-use Rattle.cjc_vtable.specs.Kept.{IsKept}
-use Rattle.cjc_vtable.proofs.Clean.{breaks_none}
-use Rattle.cjc_vtable.proofs.Keeping.{keeps}
 use Rattle.cjc_world.specs.ClassFile.declared.tree.ClassTree.{ClassTree}
 use Rattle.cjc_world.specs.Classes.{Class, Member as WorldMember, all_classes, class_named, declared, imported}
 use Rattle.cjc_world.specs.Classes.{method_of_export}
@@ -30,7 +27,6 @@ use Rattle.cjc_world.specs.Lookup.{first, is_called, member_at, own_method, rece
 use Rattle.cjc_world.specs.Supertypes.{IsAcyclic, line}
 use Rattle.cjc_world.specs.declared.found.Found.{Found}
 use Rattle.cjc_world.proofs.Cycles.{class_named-name}
-use Rattle.cjc_world.proofs.Settled.{AreSupertypes-one, supertypes-AreSupertypes}
 use Rattle.cjc_world.proofs.UpwardLaws.Lines.{below_abroad, first_has, line_below, line_named, of_line}
 use Rattle.cjc_shape_proof.specs.WorldProof.Calls.Solid.{IsConcrete, IsSolid}
 use Rattle.cjc_shape_proof.proofs.ExportedOwn.{IsOwn as IsOwnClass, own_class}
@@ -56,6 +52,7 @@ use Rattle.cjc_joint_whole.proofs.WholeLaws.Members.{ordered_together}
 use Rattle.cjc_joint_whole.proofs.WholeLaws.Shown.{SelectsBy, Shows, called_parts, parts_open, search_from, search_up}
 use Rattle.cjc_joint_whole.proofs.WholeLaws.Shown.{shown_listed, shows_above, shows_at, shows_here, where_at}
 use Rattle.cjc_joint_whole.proofs.WholeLaws.Solid.{solid_at}
+use Rattle.cjc_joint_whole.proofs.WholeLaws.ToldTested.{meant_of, tested_at}
 
 module _ (members : List Member) (is : AreWhole members) where
   abbrev group : List Files
@@ -70,19 +67,10 @@ module _ (members : List Member) (is : AreWhole members) where
   -- what selection in a package's own world rests on
   pub selects_at : (q : ℕ) (p : Member) → slice_get members q ≡ Some p → SelectsBy (all_classes p.files)
   selects_at q p at =
-      let one = is.each q p at in
-      let whole = one.whole in
-      let u = whole.unbroken in
-      let sound = is.sound.each q p.files (files_at members q p at) in
-      let solid = solid_at members is q p at in
+      let k = tested_at members is q p at in
+      let solid = k.solid in
       let order = solid.ordered in
-      let its : IsKept one.list p.files one.codes one.settings = record {
-        unbroken = breaks_none one.list p.files one.codes one.settings u.world u.checks;
-        read = (let s = sound.sound in s.read);
-        agree = one.agree;
-      } in
-      let all = keeps one.list p.files one.codes one.settings its order.acyclic
-      (supertypes-AreSupertypes (all_classes p.files) order.acyclic) (AreSupertypes-one (all_classes p.files)) in
+      let all = k.keeps in
       record { acyclic = order.acyclic; rules = all.rules; numbered = solid.numbered }
 
   -- 202: a method is the only one of its name and descriptor in its class
@@ -232,7 +220,8 @@ module _ (members : List Member) (is : AreWhole members) where
                 let o = written.exporter in
                 let r = mapped_at (export_class o) (exported_classes o) k e (sym (ap (λ (u : ExportTree). slice_get
                 u.classes k) written.is) ∙ listed) in
-                of_class o written.same_files written.meant k r.0 r.1 r.2 (own_class o k r.0 r.1)
+                of_class o written.same_files (meant_of members is j m there t written) k r.0 r.1 r.2
+                (own_class o k r.0 r.1)
 
       -- ---- upwards
 

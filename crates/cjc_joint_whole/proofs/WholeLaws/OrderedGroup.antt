@@ -52,8 +52,6 @@ module _ (packages : List Package) (linked : AreLinked packages) (keep : KeepSup
         same_files = refl;
         is = same;
         unbound = k.unbound;
-        meant = s.meant;
-        virtuals = s.own;
       }
 
   -- ---- of what kind classes are

@@ -181,6 +181,20 @@ outward_is t s name (c ∷ cs) say k e m there has = by (virtual_method t c) ref
     by None own (suc j) h rest = rest j h
     by (Some o) own k h rest = ap (λ (q : Signature). Outward (event name q)) (say 0 c refl o own)
 
+-- an export file has the initialiser of a class that a package knows as a static method
+pub plain_entry : (p : Package) → Facts p → (y : List ℕ) (e : ExportClass) (b : Class) → class_named (world p) y ≡ Some b
+    → b.is_imported ≡ true → b.methods ≡ map method_of_export e.methods → (k : ℕ) (o : ExportMethod)
+    → slice_get e.methods k ≡ Some o → is_initialiser o.name ≡ true → is_static o.flags ≡ true
+plain_entry p f y e b known import methods k o at_k init =
+    let file = f.in_file y b known import in
+    let u = file.1 in
+    let both : map method_of_export e.methods ≡ map method_of_export u.methods = sym methods ∙ ap (λ (n : Class).
+    n.methods) file.3 in
+    let r = export_from u.methods k (method_of_export o) (sym (ap (λ ms. slice_get ms k) both) ∙ export_at e.methods k o
+    at_k) in
+    ap (λ (n : Member). is_static n.flags) (sym r.2)
+    ∙ f.plain y u file.2 k r.0 r.1 (ap (λ (n : Member). is_initialiser n.name) r.2 ∙ init)
+
 -- a public or protected method that is selected is a virtual one
 shown_by : (m : Member) → is_exposed m.flags ≡ true → is_selectable m.flags ≡ true → is_special (signature_of m) ≡ false
     → is_shown m ≡ true
@@ -215,7 +229,7 @@ module _ (packages : List Package) (is : SelectTogether packages) (alone : (q : 
 
   -- ---- classes of export files and of the joint world
 
-  in_world : (y : List ℕ) (e : ExportClass) → exports.class_named es y ≡ Some e → (n : ℕ)
+  pub in_world : (y : List ℕ) (e : ExportClass) → exports.class_named es y ≡ Some e → (n : ℕ)
       × (class_named w y ≡ Some (imported n e))
   in_world y e h =
       let k = named_at es y e h in
@@ -223,13 +237,13 @@ module _ (packages : List Package) (is : SelectTogether packages) (alone : (q : 
       (k.0, ap (class_named w) (sym k.2) ∙ outside_is_found group (are_apart group is.ordered) o.outside k.0 e k.1)
 
   -- a class from outside by its name
-  record IsExported (y : List ℕ) (b : Class) : Type 0 where
-    entry : ExportClass
-    number : ℕ
-    is_class : b ≡ imported number entry
-    in_files_so : exports.class_named es y ≡ Some entry
+  pub record IsExported (y : List ℕ) (b : Class) : Type 0 where
+    pub entry : ExportClass
+    pub number : ℕ
+    pub is_class : b ≡ imported number entry
+    pub in_files_so : exports.class_named es y ≡ Some entry
 
-  in_exports : (y : List ℕ) (b : Class) → class_named w y ≡ Some b → b.is_imported ≡ true → IsExported y b
+  pub in_exports : (y : List ℕ) (b : Class) → class_named w y ≡ Some b → b.is_imported ≡ true → IsExported y b
   in_exports y b named import = by (joint_class group y b named) named import
     where
       by : {b : Class} → IsJoint group b → class_named w y ≡ Some b → b.is_imported ≡ true → IsExported y b
@@ -313,7 +327,7 @@ module _ (packages : List Package) (is : SelectTogether packages) (alone : (q : 
       once = let f = facts in f.tokens_once x x c c known plain known itself
 
       -- a public or protected virtual method of a class on the line
-      listed_token : (m : Member) → In m (all_methods (line w x)) → is_shown m ≡ true
+      pub listed_token : (m : Member) → In m (all_methods (line w x)) → is_shown m ≡ true
           → token (slots (line_of v x)) (signature_of m) ≡ Some m.token
       listed_token m i shown = (let o = once in o.listed) c m known import_c (subst (In m) (sym methods_there) i) shown
 
@@ -443,21 +457,6 @@ module _ (packages : List Package) (is : SelectTogether packages) (alone : (q : 
           find_there (λ (n : ExportMethod). exports.is_virtual n && (n.token == t)) e.methods k.0 o r.1
           (ap (λ b. b && (o.token == t)) first_test ∙ number_same_number o.token t tokens_same)
 
-      -- what export files say of a class that the package knows
-      plain_entry : (y : List ℕ) (e : ExportClass) (b : Class) → class_named v y ≡ Some b → b.is_imported ≡ true
-          → b.methods ≡ map method_of_export e.methods → (k : ℕ) (o : ExportMethod) → slice_get e.methods k ≡ Some o
-          → is_initialiser o.name ≡ true → is_static o.flags ≡ true
-      plain_entry y e b known_b import methods k o at_k init =
-          let f = facts in
-          let file = f.in_file y b known_b import in
-          let u = file.1 in
-          let both : map method_of_export e.methods ≡ map method_of_export u.methods = sym methods ∙ ap (λ (n : Class).
-          n.methods) file.3 in
-          let r = export_from u.methods k (method_of_export o) (sym (ap (λ ms. slice_get ms k) both) ∙ export_at e.methods k
-          o at_k) in
-          ap (λ (n : Member). is_static n.flags) (sym r.2)
-          ∙ f.plain y u file.2 k r.0 r.1 (ap (λ (n : Member). is_initialiser n.name) r.2 ∙ init)
-
       abbrev ups : List ExportClass
       ups = exports.upwards es names
 
@@ -520,7 +519,8 @@ module _ (packages : List Package) (is : SelectTogether packages) (alone : (q : 
               → In m (map method_of_export e.methods) → HasMethod t
           at_place k e at_k j =
               let a = asked k e at_k in
-              let o = entry_method e m t j virtual its (plain_entry a.name e a.class a.known_class a.import a.its_methods) in
+              let o = entry_method e m t j virtual its (plain_entry p facts a.name e a.class a.known_class a.import
+              a.its_methods) in
               record { place = k; entry = e; method = o.0; there_so = at_k; is_method = o.1 }
 
           by : (b : Class) → OnLine w x b → In m b.methods → HasMethod t
@@ -570,7 +570,7 @@ module _ (packages : List Package) (is : SelectTogether packages) (alone : (q : 
               let a = asked k e at_k in
               let r = find_got (λ (n : ExportMethod). exports.is_virtual n && (n.token == t)) e.methods o is_o in
               let two = and_true (exports.is_virtual o) (o.token == t) r.2 in
-              let init = plain_entry a.name e a.class a.known_class a.import a.its_methods r.0 o r.1 in
+              let init = plain_entry p facts a.name e a.class a.known_class a.import a.its_methods r.0 o r.1 in
               let virtual_o : is_virtual (method_of_export o) ≡ true = sym (export_virtual o init) ∙ two.0 in
               let among = a.on (method_of_export o) (in_at (map method_of_export e.methods) r.0 (method_of_export o)
               (export_at e.methods r.0 o r.1)) in

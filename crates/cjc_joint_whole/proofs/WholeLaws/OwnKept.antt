@@ -16,11 +16,8 @@ use Rattle.cjc_token_proof.specs.Subset.Checks.{check_breaks}
 use Rattle.cjc_token_proof.specs.Subset.Flags.{is_unfit_method_kind}
 use Rattle.cjc_token_proof.specs.Tables.Sound.{IsSound}
 use Rattle.cjc_tokens.specs.Members.{is_virtual}
-use Rattle.cjc_vtable.specs.Kept.{IsKept, Keeps}
-use Rattle.cjc_vtable.proofs.Clean.{breaks_none}
+use Rattle.cjc_vtable.specs.Kept.{Keeps}
 use Rattle.cjc_vtable.proofs.Filed.{IsFiled, filed, in_class_file, in_export_file}
-use Rattle.cjc_vtable.proofs.Keeping.{keeps}
-use Rattle.cjc_world.proofs.Settled.{AreSupertypes-one, supertypes-AreSupertypes}
 use Rattle.cjc_world.specs.Classes.{Class, Member as WorldMember, all_classes, class_named, method_of_class}
 use Rattle.cjc_world.specs.Classes.{method_of_export}
 use Rattle.cjc_world.specs.ExportFile.Writable.{IsWritable}
@@ -28,11 +25,10 @@ use Rattle.cjc_world.specs.ExportFile.declared.tree.ExportTree.{ExportTree}
 use Rattle.cjc_world.specs.Files.{Files}
 use Rattle.cjc_world.specs.Lookup.{is_selectable}
 use Rattle.cjc_joint_theorem.specs.Members.{Member}
-use Rattle.cjc_joint_theorem.proofs.MembersLaws.Worlds.{files_at}
 use Rattle.cjc_joint_whole.specs.Whole.{AreWhole}
 use Rattle.cjc_joint_whole.proofs.WholeLaws.HiddenStands.{shown_entry}
 use Rattle.cjc_joint_whole.proofs.WholeLaws.Shown.{parts_open}
-use Rattle.cjc_joint_whole.proofs.WholeLaws.Solid.{solid_at}
+use Rattle.cjc_joint_whole.proofs.WholeLaws.ToldTested.{tested_at}
 
 -- Files that break no rule of one package, over sound export files which don't contradict one another. Methods of
 -- interfaces are not package-visible, and virtual ones of imported classes are public or protected.
@@ -120,27 +116,16 @@ module _ (members : List Member) (is : AreWhole members) (q : ℕ) (p : Member) 
   pub kept_at : IsKeptBy p.files
   kept_at =
       let one = is.each q p at in
-      let whole = one.whole in
-      let u = whole.unbroken in
-      let read = whole.read in
-      let all = is.sound.each q p.files (files_at members q p at) in
-      let s = all.sound in
-      let solid = solid_at members is q p at in
-      let order = solid.ordered in
-      let its : IsKept one.list p.files one.codes one.settings = record {
-        unbroken = breaks_none one.list p.files one.codes one.settings u.world u.checks;
-        read = s.read;
-        agree = one.agree;
-      } in
+      let read = (let whole = one.whole in whole.read) in
+      let k = tested_at members is q p at in
       record {
-        list = one.list;
-        codes = one.codes;
-        settings = one.settings;
-        sound = record { classes = s.classes; exports = s.exports; read = s.read; names = s.names; unbroken = u.world };
-        checks = u.checks;
-        solid = solid;
-        keeps = keeps one.list p.files one.codes one.settings its order.acyclic
-            (supertypes-AreSupertypes (all_classes p.files) order.acyclic) (AreSupertypes-one (all_classes p.files));
+        list = k.list;
+        codes = k.codes;
+        settings = k.settings;
+        sound = k.sound;
+        checks = k.checks;
+        solid = k.solid;
+        keeps = k.keeps;
         plain = one.plain;
         read = read.exports;
         faces = one.interfaces;

@@ -8,7 +8,6 @@ use Rattle.cjc_bytes.specs.declared.fault.MemberId.{MemberId}
 use Rattle.cjc_components.specs.Package.{Package, world}
 use Rattle.cjc_joint_proof.specs.JointAlike.{JointNaming, code_at, offset_at}
 use Rattle.cjc_joint_proof.specs.JointCalled.{StandByPackage}
-use Rattle.cjc_joint_proof.specs.JointCode.{InPackage}
 use Rattle.cjc_joint_proof.specs.JointNames.{reached_for, start_for}
 use Rattle.cjc_joint_proof.specs.JointPackages.{class_together, files_together}
 use Rattle.cjc_joint_proof.specs.JointTables.{world_together}
@@ -27,8 +26,8 @@ use Rattle.cjc_jvm_semantics.specs.OnePackage.{first_imported, is_initialiser, m
 use Rattle.cjc_token_proof.proofs.WrittenCalls.Held.{FormsLaw, OffsetsLaw}
 use Rattle.cjc_token_proof.specs.Calls.Reaching.{start_placed}
 use Rattle.cjc_token_proof.specs.Calls.Selecting.{signature}
-use Rattle.cjc_token_proof.specs.CardSemantics.Bytecode.Alike.{reached_as, start_as}
-use Rattle.cjc_token_proof.specs.CardSemantics.Bytecode.Machine.{Abroad, Nowhere, Reached, Start, Within}
+use Rattle.cjc_token_proof.specs.CardSemantics.Bytecode.Alike.{start_as}
+use Rattle.cjc_token_proof.specs.CardSemantics.Bytecode.Machine.{Start, Within}
 use Rattle.cjc_token_proof.specs.CardSemantics.Machine.Calls as card
 use Rattle.cjc_token_proof.specs.CardSemantics.Machine.Dispatch.{At, NotFound, Open, Outward, Selection, dispatched_open}
 use Rattle.cjc_token_proof.specs.CardSemantics.Machine.Dispatch.{Hidden, dispatched_hidden, tower}

@@ -3,12 +3,11 @@
 use Rattle.std.proofs.Common.{◌≡◌, ℕ, refl, sym, ap, ◌∙◌, Bool, true, false, List, [], ◌∷◌, Option, Some, None}
 use Rattle.std.proofs.Common.{⊎_elim, subst}
 use Rattle.std.specs.Prelude.{is_some, option_and_then, slice_get, ◌&&◌, if◌then◌else◌}
-use Rattle.cjc_bytes.specs.AccessFlags.{is_interface}
+use Rattle.cjc_bytes.specs.AccessFlags.{is_abstract, is_interface}
 use Rattle.cjc_bytes.specs.declared.fault.MemberId.{MemberId}
 use Rattle.cjc_components.specs.Package.{Package}
 use Rattle.cjc_joint_proof.specs.JointAlike.{naming_at}
 use Rattle.cjc_joint_proof.specs.JointCalled.{StandByPackage}
-use Rattle.cjc_joint_proof.specs.JointNames.{start_for}
 use Rattle.cjc_joint_proof.specs.JointPackages.{AreLinked, class_together, files_together}
 use Rattle.cjc_joint_proof.specs.JointTables.{KeepSupers, world_together}
 use Rattle.cjc_joint_proof.specs.JointTogether.{naming_together}
@@ -23,6 +22,7 @@ use Rattle.cjc_jvm_semantics.specs.Linked.{Method}
 use Rattle.cjc_jvm_semantics.specs.OnePackage.{ResolvedMember, is_sendable, method_at, method_hit, method_in}
 use Rattle.cjc_token_proof.proofs.WorldProofTypes.{receiver_class, type_below}
 use Rattle.cjc_token_proof.proofs.WrittenCalls.Held.{FormsLaw, OffsetsLaw}
+use Rattle.cjc_token_proof.proofs.WrittenSends.Sent.{sent_nothing}
 use Rattle.cjc_token_proof.specs.ByToken.Supers.{KindsAgree}
 use Rattle.cjc_token_proof.specs.CardSemantics.Bytecode.Machine.{Start}
 use Rattle.cjc_token_proof.specs.CardSemantics.Bytecode.Renaming.{shape_as}
@@ -33,8 +33,8 @@ use Rattle.cjc_token_proof.specs.CardSemantics.Machine.Classes as classes
 use Rattle.cjc_token_proof.specs.CardSemantics.Machine.Loaded.{Loaded}
 use Rattle.cjc_token_proof.specs.CardSemantics.Machine.Methods.{Code}
 use Rattle.cjc_token_proof.specs.NCode.Lowering.Placed.{Placed}
-use Rattle.cjc_token_proof.specs.Script.Sorts.{Booleans, Bytes, Element, Ints, OfClass, OfNumbers, OfReferences, Shape}
-use Rattle.cjc_token_proof.specs.Script.Sorts.{Shorts, shape_name}
+use Rattle.cjc_token_proof.specs.Script.Sorts.{OfClass, OfNumbers, OfReferences, Shape}
+use Rattle.cjc_token_proof.specs.Script.Sorts.{shape_name}
 use Rattle.cjc_token_proof.specs.WrittenCalls.Calls.{Receives, numbers, one_of, references}
 use Rattle.cjc_world.proofs.Settled.{AreSupertypes-one, supertypes-AreSupertypes}
 use Rattle.cjc_world.proofs.UpwardLaws.Lines.{below_abroad, first_has, line_below, line_named, of_line}
@@ -50,8 +50,7 @@ use Rattle.cjc_joint_whole.specs.Selected.{SelectTogether}
 use Rattle.cjc_joint_whole.specs.Sent.{ObjectsAreSentAlike, begun, sent_for, sent_of}
 use Rattle.cjc_joint_whole.proofs.WholeLaws.FixedNamed.{AloneLaws}
 use Rattle.cjc_joint_whole.proofs.WholeLaws.HiddenCalls.{no_array}
-use Rattle.cjc_joint_whole.proofs.WholeLaws.SentKnown.{IsDeclared, by_flags, by_package, no_code, numbers_received}
-use Rattle.cjc_joint_whole.proofs.WholeLaws.SentNothing.{sent_nothing}
+use Rattle.cjc_joint_whole.proofs.WholeLaws.SentKnown.{IsDeclared, by_flags, by_package, numbers_received}
 
 -- types are by token what they are by name
 abbrev pub KindsLaw : Type 0
@@ -185,7 +184,8 @@ module _ (types : KindsLaw) (forms : FormsLaw) (offsets : OffsetsLaw) (packages 
 
     no_class : class_named w id.class ≡ None → Goal
     no_class nowhere =
-        ap (option_and_then (card.sent_as l (shape_as on_card kind) id)) (none_named packages is.linked id.class nowhere)
+        ap (option_and_then (card.sent_as l (shape_as on_card kind) id)) (none_named packages is.linked id.class
+        nowhere)
         ∙ sym (ap (λ o. begun packages at (sent_of packages at (shape_name kind) id (is_subtype w (shape_name kind)
         id.class) o)) (find_none id.class id.name id.desc nowhere))
 
@@ -232,7 +232,8 @@ module _ (types : KindsLaw) (forms : FormsLaw) (offsets : OffsetsLaw) (packages 
 
     -- to an object of a class
     module _ (x : List ℕ) (is_x : kind ≡ OfClass x) (c : Class) (known_x : class_named w x ≡ Some c)
-        (plain : is_interface c.flags ≡ false) (d : Class) (known_d : class_named w id.class ≡ Some d) where
+        (plain : is_interface c.flags ≡ false) (made : c.is_imported ≡ false → is_abstract c.flags ≡ false) (d : Class)
+        (known_d : class_named w id.class ≡ Some d) where
       itself : receiver x ≡ x
       itself = receiver_class x (no_array forms offsets packages is each at stand x c known_x)
 
@@ -254,7 +255,7 @@ module _ (types : KindsLaw) (forms : FormsLaw) (offsets : OffsetsLaw) (packages 
           own mine true sub =
               ap (λ k. card.start_selected l (card.sent_to l (shape_class l (shape_as on_card k)) (on_card id.class)
               id)) is_x
-              ∙ objects x c known_x mine plain id d known_d (below (ap (λ k. is_subtype w (shape_name k) id.class) (sym
+              ∙ objects x c known_x mine plain (made mine) id d known_d (below (ap (λ k. is_subtype w (shape_name k) id.class) (sym
               is_x) ∙ sub))
               ∙ sym (ap (λ k. begun packages at (sent_of packages at (shape_name k) id true found)) is_x)
             where
@@ -287,7 +288,7 @@ module _ (types : KindsLaw) (forms : FormsLaw) (offsets : OffsetsLaw) (packages 
       outside objects (OfReferences x) references id d known_d (array objects (OfReferences x) references id d known_d
       refl refl)
   of_kind objects _ (one_of {x = x} c known_x plain made) id d known_d =
-      object_sent objects (OfClass x) (one_of c known_x plain made) id x refl c known_x plain d known_d
+      object_sent objects (OfClass x) (one_of c known_x plain made) id x refl c known_x plain made d known_d
 
   -- so it is of all that scripts send
   pub sent_agrees : ObjectsAreSentAlike packages at → (kind : Shape (List ℕ)) (id : MemberId)

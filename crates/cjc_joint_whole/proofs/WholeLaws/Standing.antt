@@ -43,6 +43,7 @@ use Rattle.cjc_joint_whole.proofs.WholeLaws.Owners.{MetInFile, own_met}
 use Rattle.cjc_joint_whole.proofs.WholeLaws.Shown.{IsWhere, called_parts, open_parts, parts_open, where_at}
 use Rattle.cjc_joint_whole.proofs.WholeLaws.Solid.{solid_at}
 use Rattle.cjc_joint_whole.proofs.WholeLaws.Sources.{source}
+use Rattle.cjc_joint_whole.proofs.WholeLaws.ToldKinds.{above_kept, faces_open}
 
 -- What the joint world has for a method that a package finds: one that can be selected, which is public or protected, in
 -- the class of the name or in a class or interface above it, for one of an interface in an interface.
@@ -247,6 +248,8 @@ module _ (members : List Member) (is : AreWhole members) where
         below : Below w e.name owner_there.name
         owner_named : class_named w owner_there.name ≡ Some owner_there
         where_it_is : IsWhere is_exposed id.name id.desc owner_there place_there
+        -- one of a class is found on the line
+        on_line_first : is_interface owner_there.flags ≡ false → first exposed (line w e.name) ≡ Some place_there
 
       own_exposed : (g : Found) × (exposed (let d = above in d.class) ≡ Some g)
       own_exposed =
@@ -272,6 +275,7 @@ module _ (members : List Member) (is : AreWhole members) where
             below = line_below w e.name d on;
             owner_named = line_named w e.name d on;
             where_it_is = where_at is_exposed id.name id.desc d f one.2;
+            on_line_first = λ plain. found;
           }
 
       in_interfaces : first exposed (line w e.name) ≡ None → IsExposedAbove
@@ -297,6 +301,7 @@ module _ (members : List Member) (is : AreWhole members) where
             below = from up.0 up.1 (let y = one.0 in y.name) up.2;
             owner_named = up.3;
             where_it_is = where_at is_exposed id.name id.desc one.0 f.0 one.2;
+            on_line_first = λ plain. absurd (true_not_false (let y = one.0 in is_interface y.flags) up.4 plain);
           }
         where
           clash : false ≡ true → ⊥
@@ -334,9 +339,13 @@ module _ (members : List Member) (is : AreWhole members) where
           let b = x.where_it_is in
           let m = b.method in
           let names = called_parts id.name id.desc m b.called in
-          let may = tell.kinds e.name c d.class b.place d.place m d.method x.owner_named d.named x.below d.below b.there
-          d.there (names.0 ∙ sym d.has_name) (names.1 ∙ sym d.has_desc) b.passing d.opened (ap is_constructor d.has_name
-          ∙ ordinary) in
+          let is_m = ap (method_hit w) b.is ∙ hit_is w c b.place m (numbered_there c.name c x.owner_named) b.there in
+          let may : is_selectable m.flags ≡ true = ⊎_elim
+          (λ it. (open_parts m.flags (faces_open members is c x.owner_named it b.place m b.there (ap is_initialiser names.0
+          ∙ initial))).0)
+          (λ plain. above_kept members is tell id initial ordinary x.place_there (record { owner = c; flags = m.flags })
+          is_m q p at e.name (imported n e) named ground h.class h.at_name h.own h.ground_here (x.on_line_first plain) d)
+          (true_or_false (is_interface c.flags)) in
           let open_one = parts_open m.flags may b.passing in
           let owner_name : (let c = hit.owner in c.name) ≡ e.name = ap (λ (h : ResolvedMember). let c = h.owner in c.name)
           told in
@@ -350,7 +359,7 @@ module _ (members : List Member) (is : AreWhole members) where
                 else own_method false id.name id.desc y)) h.at_name
                 ∙ ap (λ b. if true && not b then find_exposed w e.name id else own_method false id.name id.desc h.class)
                 h.own ∙ x.found;
-            is_met = ap (method_hit w) b.is ∙ hit_is w c b.place m (numbered_there c.name c x.owner_named) b.there;
+            is_met = is_m;
             may = may;
             shown = seen_by m.flags open_one;
             class = c;

@@ -6,7 +6,7 @@ use Rattle.std.specs.Prelude.{◌&&◌, not, option_and_then, option_map, slice_
 use Rattle.cjc_bytes.specs.AccessFlags.{is_interface}
 use Rattle.cjc_bytes.specs.declared.fault.MemberId.{MemberId}
 use Rattle.cjc_jvm_semantics.specs.Group.{find_exposed, is_exposed, is_open, joint_method, own_where}
-use Rattle.cjc_jvm_semantics.specs.OnePackage.{ResolvedMember, is_constructor, method_hit}
+use Rattle.cjc_jvm_semantics.specs.OnePackage.{ResolvedMember, is_constructor, is_initialiser, method_hit}
 use Rattle.cjc_world.specs.Classes.{Class, Member as WorldMember, all_classes, class_named, declared, imported}
 use Rattle.cjc_world.specs.ExportFile.declared.tree.ExportClass.{ExportClass}
 use Rattle.cjc_world.specs.ExportFile.declared.tree.ExportTree.{ExportTree}
@@ -33,14 +33,17 @@ use Rattle.cjc_joint_theorem.specs.Together.Homes.{joint_world}
 use Rattle.cjc_joint_theorem.proofs.OrderedLaws.Ordered.{ordered}
 use Rattle.cjc_joint_whole.specs.Told.{IsDeclaredAbove, IsOfKind, IsToldAbove}
 use Rattle.cjc_joint_whole.specs.Whole.{AreWhole, IsWrittenFor}
-use Rattle.cjc_joint_whole.proofs.WholeLaws.Asked.{no_object}
+use Rattle.cjc_joint_whole.proofs.WholeLaws.Asked.{of_root}
 use Rattle.cjc_joint_whole.proofs.WholeLaws.Exposed.{own_here}
+use Rattle.cjc_joint_whole.proofs.WholeLaws.HiddenStands.{no_static}
 use Rattle.cjc_joint_whole.proofs.WholeLaws.Imports.{exported}
 use Rattle.cjc_joint_whole.proofs.WholeLaws.Members.{ordered_together}
 use Rattle.cjc_joint_whole.proofs.WholeLaws.Nearest.{only}
-use Rattle.cjc_joint_whole.proofs.WholeLaws.Shown.{IsWhere, called_parts, open_parts, parts_open, where_at}
+use Rattle.cjc_joint_whole.proofs.WholeLaws.OwnKept.{kept_at, no_initialiser}
+use Rattle.cjc_joint_whole.proofs.WholeLaws.Shown.{IsWhere, called_parts, open_parts, search_from, where_at}
 use Rattle.cjc_joint_whole.proofs.WholeLaws.Sources.{source}
 use Rattle.cjc_joint_whole.proofs.WholeLaws.Standing.{IsMetOpen, numbered_there, seen_by}
+use Rattle.cjc_joint_whole.proofs.WholeLaws.ToldKinds.{faces_open}
 
 same_class : {c d : Class} → Some c ≡ Some d → c ≡ d
 same_class e = cc
@@ -166,18 +169,65 @@ module _ (members : List Member) (is : AreWhole members) (tell : IsToldAbove mem
     is_one : is_interface owner_there.flags ≡ true
     where_it_is : IsWhere is_exposed id.name id.desc owner_there place_there
 
-  -- java/lang/Object has no such method
-  not_object : (d : Class) → class_named w object ≡ Some d → (f : Found) → IsWhere is_exposed id.name id.desc d f → ⊥
-  not_object d at_object f b =
-      let s = above in
-      let c = s.class in
-      let y = b.method in
-      let names = called_parts id.name id.desc y b.called in
-      tell.objects d c b.place s.place y s.method at_object s.named above_is_one b.there s.there s.opened
-      (names.0 ∙ sym (s.has_name ∙ a.has_name)) (names.1 ∙ sym (s.has_desc ∙ a.has_desc))
+  abbrev here_class : Class
+  here_class = let h = is_here in h.class
 
-  on_its_line : (f : Found) → first exposed (line w e.name) ≡ Some f → IsExposedAbove
-  on_its_line f found =
+  here_named : class_named w (let c = here_class in c.name) ≡ Some here_class
+  here_named = let h = is_here in ap (class_named w) (class_named-name w e.name h.class h.at_name) ∙ h.at_name
+
+  nothing : {f : Found} → Some f ≡ None → ⊥
+  nothing k = cc
+
+  -- java/lang/Object has no such method where the interface itself has none
+  no_root : exposed here_class ≡ None → (o : Class) → class_named w object ≡ Some o → (j : ℕ) (y : WorldMember)
+      → slice_get o.methods j ≡ Some y → is_exposed y.flags ≡ true → y.name ≡ id.name → y.desc ≡ id.desc → ⊥
+  no_root none o at_object j y there shown name desc = ⊎_elim same_one over (let s = above in s.below)
+    where
+      same_one : e.name ≡ (let s = above in let z = s.class in z.name) → ⊥
+      same_one same =
+          let h = is_here in
+          let s = above in
+          let one : s.class ≡ h.class = same_class (sym s.named ∙ ap (class_named w) (sym same) ∙ h.at_name) in
+          let its = own_exposed in
+          nothing (sym its.1 ∙ ap exposed one ∙ none)
+
+      over : Above w e.name (let s = above in let z = s.class in z.name) → ⊥
+      over far =
+          let h = is_here in
+          let c = h.class in
+          let s = above in
+          let z = s.class in
+          let k = s.method in
+          let called : c.name ≡ e.name = class_named-name w e.name c h.at_name in
+          let r = tell.objects c z o s.place j k y here_named h.own h.is_one s.named above_is_one (subst (λ u. Above w u
+          z.name) (sym called) far) s.there s.opened at_object there shown (name ∙ sym (s.has_name ∙ a.has_name)) (desc
+          ∙ sym (s.has_desc ∙ a.has_desc)) in
+          let x = r.method in
+          let passes : (is_exposed x.flags && is_called id.name id.desc x) ≡ true = ap (λ b. b && is_called id.name
+          id.desc x) (open_parts x.flags r.opened).1 ∙ called_by id.name id.desc x (r.has_name ∙ s.has_name ∙ a.has_name)
+          (r.has_desc ∙ s.has_desc ∙ a.has_desc) in
+          let g = is_found (λ (u : WorldMember). is_exposed u.flags && is_called id.name id.desc u) c.methods r.place x
+          r.there passes in
+          nothing (sym (ap (option_map (λ u. member_at c (length c.fields + u))) g.1) ∙ none)
+
+  -- the interface itself has it
+  on_itself : (f : Found) → exposed here_class ≡ Some f → IsExposedAbove
+  on_itself f k =
+      let h = is_here in
+      let c = h.class in
+      record {
+        place_there = f;
+        found = ap (λ o. or_else o (first exposed all_interfaces)) (search_from w order.acyclic exposed e.name c h.at_name
+            f k);
+        owner_there = c;
+        below = inl (sym (class_named-name w e.name c h.at_name));
+        owner_named = here_named;
+        is_one = h.is_one;
+        where_it_is = where_at is_exposed id.name id.desc c f k;
+      }
+
+  on_its_line : exposed here_class ≡ None → (f : Found) → first exposed (line w e.name) ≡ Some f → IsExposedAbove
+  on_its_line none f found =
       let one = first_has exposed (line w e.name) f found in
       let d = one.0 in
       let on = of_line w order.acyclic e.name d one.1 in
@@ -201,10 +251,13 @@ module _ (members : List Member) (is : AreWhole members) (tell : IsToldAbove mem
           let h = is_here in
           let one : c ≡ h.class = same_class (sym f ∙ ap (class_named w) same ∙ h.at_name) in
           let top : s ≡ object = order.only_object x s c f (ap (λ (y : Class). is_interface y.flags) one ∙ h.is_one) l in
-          absurd (not_object d (top_alone w order d (subst (λ y. OnLine w y d) top rest)) _ b)
+          let y = b.method in
+          let names = called_parts id.name id.desc y b.called in
+          absurd (no_root none d (top_alone w order d (subst (λ y. OnLine w y d) top rest)) b.place y b.there b.passing
+          names.0 names.1)
 
-  in_interfaces : first exposed (line w e.name) ≡ None → IsExposedAbove
-  in_interfaces none =
+  in_interfaces : exposed here_class ≡ None → first exposed (line w e.name) ≡ None → IsExposedAbove
+  in_interfaces bare none =
       let s = above in
       let z = s.class in
       let its = own_exposed in
@@ -231,6 +284,18 @@ module _ (members : List Member) (is : AreWhole members) (tell : IsToldAbove mem
       from_one : (x : List ℕ) → Lists x (e.name ∷ []) → (y : List ℕ) → Below w x y → Below w e.name y
       from_one x l y way = subst (λ a. Below w a y) (only x e.name l) way
 
+      -- what stands above java/lang/Object, that lists
+      through : Below w object (let s = above in let z = s.class in z.name) → ⊥
+      through way =
+          let s = above in
+          let k = s.method in
+          let r = of_root members is tell s.class s.named above_is_one s.place k s.there s.opened (ap is_constructor
+          (s.has_name ∙ a.has_name) ∙ ordinary) way in
+          let o = r.2 in
+          let y = o.method in
+          no_root bare r.0 r.1 o.place y o.there (open_parts y.flags o.opened).1 (o.has_name ∙ s.has_name ∙ a.has_name)
+          (o.has_desc ∙ s.has_desc ∙ a.has_desc)
+
       over : (c : Class) → class_named w e.name ≡ Some c → (y : List ℕ) → Lists y (c.supers ++ c.interfaces)
           → Below w y (let s = above in let z = s.class in z.name) → Has (let s = above in s.class) all_interfaces
       over c named_c y l way =
@@ -238,9 +303,8 @@ module _ (members : List Member) (is : AreWhole members) (tell : IsToldAbove mem
           let s = above in
           let one : c ≡ h.class = same_class (sym named_c ∙ h.at_name) in
           ⊎_elim
-          (λ super. absurd (no_object members is tell s.class s.named above_is_one s.place s.method s.there s.opened
-          (ap is_constructor (s.has_name ∙ a.has_name) ∙ ordinary) (subst (λ b. Below w b (let z = s.class in z.name))
-          (order.only_object e.name y c named_c (ap (λ (v : Class). is_interface v.flags) one ∙ h.is_one) super) way)))
+          (λ super. absurd (through (subst (λ b. Below w b (let z = s.class in z.name)) (order.only_object e.name y c
+          named_c (ap (λ (v : Class). is_interface v.flags) one ∙ h.is_one) super) way)))
           (λ interface. above_listed w order e.name c s.class named_c y interface way s.named above_is_one)
           (lists-split y c.supers c.interfaces l)
 
@@ -259,11 +323,18 @@ module _ (members : List Member) (is : AreWhole members) (tell : IsToldAbove mem
           (inr (subst (Above w s) is_y far))
 
   found_above : IsExposedAbove
-  found_above = by (first exposed (line w e.name)) refl
+  found_above = by (exposed here_class) refl (first exposed (line w e.name)) refl
     where
-      by : (o : Option Found) → first exposed (line w e.name) ≡ o → IsExposedAbove
-      by (Some f) found = on_its_line f found
-      by None none = in_interfaces none
+      by : (u : Option Found) → exposed here_class ≡ u → (o : Option Found) → first exposed (line w e.name) ≡ o
+          → IsExposedAbove
+      by (Some f) k o found = on_itself f k
+      by None k (Some f) found = on_its_line k f found
+      by None k None none = in_interfaces k none
+
+  -- it is no initialiser
+  start : is_initialiser id.name ≡ false
+  start = ap is_initialiser (sym a.has_name) ∙ no_initialiser p.files (kept_at members is q p at) e.name (imported n e)
+      a.place m named a.is_member (no_static m.flags (open_parts m.flags member_open).0)
 
   pub interface_open : IsMetOpen members id hit
   interface_open =
@@ -274,10 +345,8 @@ module _ (members : List Member) (is : AreWhole members) (tell : IsToldAbove mem
       let b = x.where_it_is in
       let y = b.method in
       let names = called_parts id.name id.desc y b.called in
-      let may = tell.kinds e.name c d.class b.place d.place y d.method x.owner_named d.named x.below d.below b.there
-      d.there (names.0 ∙ sym (d.has_name ∙ a.has_name)) (names.1 ∙ sym (d.has_desc ∙ a.has_desc)) b.passing d.opened
-      (ap is_constructor (d.has_name ∙ a.has_name) ∙ ordinary) in
-      let open_one = parts_open y.flags may b.passing in
+      let open_one = faces_open members is c x.owner_named x.is_one b.place y b.there (ap is_initialiser names.0 ∙ start)
+      in
       let owner_name : (let c = hit.owner in c.name) ≡ e.name = ap (λ (h : ResolvedMember). let c = h.owner in c.name)
       told in
       let owner_kind : is_interface (let c = hit.owner in c.flags) ≡ is_interface e.flags =
@@ -291,7 +360,7 @@ module _ (members : List Member) (is : AreWhole members) (tell : IsToldAbove mem
             ∙ ap (λ b. if true && not b then find_exposed w e.name id else own_method false id.name id.desc h.class)
             h.own ∙ x.found;
         is_met = ap (method_hit w) b.is ∙ hit_is w c b.place y (numbered_there members is c.name c x.owner_named) b.there;
-        may = may;
+        may = (open_parts y.flags open_one).0;
         shown = seen_by y.flags open_one;
         class = c;
         named = x.owner_named;

@@ -1,5 +1,5 @@
--- Calls by invokevirtual and invokeinterface of public and protected methods, whichever class or interface declares them:
--- what the joint world has for one is selected there on each object, with code.
+-- Calls that select a method on each object, whichever class or interface declares it: what the joint world has for it is
+-- selected there, with code.
 use Rattle.std.proofs.Common.{◌≡◌, ℕ, refl, sym, ap, subst, ◌∙◌, Bool, true, false, List, Option, Some, inl, ⊎_elim}
 use Rattle.std.specs.Prelude.{◌&&◌, ◌||◌, option_map, slice_get}
 use Rattle.std.proofs.lemmas.Option.{slice_get-map}
@@ -9,17 +9,14 @@ use Rattle.cjc_bytes.proofs.Bools.{true_not_false, true_or_false}
 use Rattle.cjc_components.specs.Bytecode.declared.insn.JOp.{JOp}
 use Rattle.cjc_components.specs.Bytecode.declared.insn.JOp.TheVariants as jop
 use Rattle.cjc_components.specs.Bytecode.declared.method_code.MethodCode.{MethodCode}
-use Rattle.cjc_jvm_semantics.specs.Group.{is_open, is_package_visible, joint, joint_exports, joint_image, selection_for}
+use Rattle.cjc_jvm_semantics.specs.Group.{is_open, is_package_visible, joint, joint_image, selection_for}
 use Rattle.cjc_jvm_semantics.specs.Linked.{Callee, Method}
 use Rattle.cjc_jvm_semantics.specs.OnePackage.{ResolvedMember, interface_callee, is_constructor, is_initialiser}
 use Rattle.cjc_vtable.specs.Calls.{is_special}
-use Rattle.cjc_vtable.proofs.Filed.{IsFiled, filed, get-has, has-get, in_class_file, in_export_file, of-imports}
 use Rattle.cjc_world.specs.Classes.{Class, Member as WorldMember, all_classes, class_named, imported}
 use Rattle.cjc_world.specs.Classes.{method_of_export}
-use Rattle.cjc_world.specs.ExportFile.declared.tree.ExportClass.{ExportClass}
-use Rattle.cjc_world.specs.ExportFile.declared.tree.ExportTree.{ExportTree}
 use Rattle.cjc_world.specs.Files.{Files}
-use Rattle.cjc_world.specs.Lookup.{is_selectable, own_method, receiver}
+use Rattle.cjc_world.specs.Lookup.{is_selectable, receiver}
 use Rattle.cjc_world.specs.Subtype.{is_subtype}
 use Rattle.cjc_world.specs.Upwards.{Below}
 use Rattle.cjc_world.proofs.Cycles.{class_named-name}
@@ -33,13 +30,10 @@ use Rattle.cjc_narrow_proof.specs.Runs.Names as named_alone
 use Rattle.cjc_narrow_proof.specs.Runs.Tables.{look_ups}
 use Rattle.cjc_narrow_proof.specs.Script.Sorts.{shape_name}
 use Rattle.cjc_shape_proof.specs.WorldProof.Calls.Targets.{IsReceiver}
-use Rattle.cjc_token_proof.proofs.WorldProofOwn.{IsAt}
 use Rattle.cjc_token_proof.proofs.WorldProofTypes.{type_below}
-use Rattle.cjc_token_proof.specs.Subset.Members.{imports}
 use Rattle.cjc_token_proof.specs.Types.declared.cell.Cell.{Cell}
 use Rattle.cjc_token_proof.specs.Types.declared.state.State.{State}
 use Rattle.cjc_token_proof.specs.Types.Search.{cells_of}
-use Rattle.cjc_joint_proof.proofs.AboveLaws.{flat_at}
 use Rattle.cjc_joint_theorem.specs.Members.{Member, files_of, homes_of, images_of, member_of, number_of, tables_of}
 use Rattle.cjc_joint_theorem.specs.Together.Calls.{IsReceiverIn, selected_together}
 use Rattle.cjc_joint_theorem.specs.Together.Calls as together
@@ -48,9 +42,11 @@ use Rattle.cjc_joint_theorem.specs.Together.Names.{IsNamedIn}
 use Rattle.cjc_joint_theorem.specs.Together.Names as names
 use Rattle.cjc_joint_theorem.proofs.MembersLaws.Worlds.{files_at, type_there}
 use Rattle.cjc_joint_theorem.proofs.OrderedLaws.Ordered.{IsJoint, joint_class, outside_file, own_file}
-use Rattle.cjc_joint_whole.specs.Told.{IsRest, IsRestCall, IsToldAbove, RestStands}
-use Rattle.cjc_joint_whole.specs.Whole.{AreWhole, IsExport, IsSelecting, IsSelectingCall, from_outside}
-use Rattle.cjc_joint_whole.specs.Whole.{SelectionsStand, of_member}
+use Rattle.cjc_joint_whole.specs.Told.{IsToldAbove}
+use Rattle.cjc_joint_whole.specs.Whole.{AreWhole, IsSelecting, IsSelectingCall}
+use Rattle.cjc_joint_whole.specs.Whole.{SelectionsStand}
+use Rattle.cjc_joint_whole.proofs.WholeLaws.AboveCalls.{above_stands}
+use Rattle.cjc_joint_whole.proofs.WholeLaws.AboveStanding.{met_open}
 use Rattle.cjc_joint_whole.proofs.WholeLaws.Accepted.{receiver_is}
 use Rattle.cjc_joint_whole.proofs.WholeLaws.Fields.{files_are}
 use Rattle.cjc_joint_whole.proofs.WholeLaws.HiddenStands.{hidden_stands}
@@ -62,8 +58,8 @@ use Rattle.cjc_joint_whole.proofs.WholeLaws.Receivers.{receiver_in}
 use Rattle.cjc_joint_whole.proofs.WholeLaws.Selected.{selects_open}
 use Rattle.cjc_joint_whole.proofs.WholeLaws.Selecting.{Selects, selects_any, selects_by_interface}
 use Rattle.cjc_joint_whole.proofs.WholeLaws.Solid.{solid_at}
-use Rattle.cjc_joint_whole.proofs.WholeLaws.Standing.{IsMetOpen, outside_open, own_open, shared_open}
-use Rattle.cjc_joint_whole.proofs.WholeLaws.StandingInterfaces.{interface_open}
+use Rattle.cjc_joint_whole.proofs.WholeLaws.Standing.{IsMetOpen}
+use Rattle.cjc_joint_whole.proofs.WholeLaws.ToldOutside.{lists_above}
 
 special_off : (a b : Bool) → a ≡ false → b ≡ false → (a || b) ≡ false
 special_off false false e f = refl
@@ -103,7 +99,8 @@ module _ (members : List Member) (is : AreWhole members) (tell : IsToldAbove mem
         abroad it (own_file q k p t own) at_x ground imp = absurd cc
         abroad it (outside_file n e kept) at_x ground imp =
             let name_e : e.name ≡ x = class_named-name w x (imported n e) at_x in
-            let h = tell.asked n i e d m kept named it (subst (λ a. Below w a d.name) (sym name_e) way) there open_one in
+            let h = lists_above members is tell.asked n i e d m kept named it (subst (λ a. Below w a d.name) (sym name_e)
+            way) there open_one in
             let y = h.entry in
             selects_open members is id plain initial met shown (imported n e) (ap (class_named w) name_e ∙ at_x) ground
             h.place (method_of_export y) (slice_get-map method_of_export e.methods h.place
@@ -210,39 +207,11 @@ module _ (members : List Member) (is : AreWhole members) (tell : IsToldAbove mem
     }
 
     -- it has one
-    met_open : IsMetOpen members id c.hit
-    met_open =
+    stands_open : IsMetOpen members id c.hit
+    stands_open =
         let o = owner_of p.files (solid_at members is q p at) id c.place c.hit c.found c.is_hit in
-        by (filed p.files (let d = o.class in d.name) o.class o.named) o.named o.own o.at o.is_hit
-      where
-        of_tree : (n : ℕ) (e : ExportClass) → (let f = p.files in slice_get (imports f.exports) n ≡ Some e)
-            → class_named v e.name ≡ Some (imported n e) → own_method false id.name id.desc (imported n e) ≡ Some c.place
-            → (a : IsAt false id.name id.desc (imported n e) c.place)
-            → hit ≡ record { owner = imported n e; flags = (let x = a.member in x.flags) } → (u : ExportTree) (k : ℕ)
-            → slice_get u.classes k ≡ Some e → IsExport members q u → IsMetOpen members id c.hit
-        of_tree n e file named own a told u k listed (of_member j g less there written) =
-            ⊎_elim
-            (λ it. interface_open members is tell q p at id ordinary c.place c.hit opened n e named a told it j g there u
-            written k listed)
-            (λ ground. shared_open members is q p at id c.no_initialiser ordinary c.place c.hit c.is_hit opened tell
-            n e named a told ground j g there u written k listed)
-            (true_or_false (is_interface e.flags))
-        of_tree n e file named own a told u k listed (from_outside j kept) =
-            let all = flat_at (λ (y : ExportTree). y.classes) (joint_exports group) j k u e kept listed in
-            outside_open members is q p at id c.no_initialiser ordinary c.place c.hit c.is_hit opened n e file named own a
-            told all.0 all.1
-
-        by : {d : Class} → IsFiled p.files d → class_named v d.name ≡ Some d
-            → own_method false id.name id.desc d ≡ Some c.place → (a : IsAt false id.name id.desc d c.place)
-            → hit ≡ record { owner = d; flags = (let x = a.member in x.flags) } → IsMetOpen members id c.hit
-        by (in_class_file n o file) named own a told = own_open members is q p at id c.no_initialiser ordinary
-            c.place c.hit c.is_hit opened n o file own a told
-        by (in_export_file n e file) named own a told =
-            let f = p.files in
-            let of = of-imports e f.exports (get-has e (imports f.exports) n file) in
-            let k = has-get of.0 f.exports of.1 in
-            let place = has-get e (let u = of.0 in u.classes) of.2 in
-            of_tree n e file named own a told of.0 place.0 place.1 (is.written q k.0 p of.0 at k.1)
+        met_open members is tell q p at id c.no_initialiser ordinary c.place c.hit c.is_hit opened o.class o.named o.own
+        o.at o.is_hit
 
   -- a method of an interface is not package-visible
   seen_of : (q : ℕ) (p : Member) → slice_get members q ≡ Some p → (id : MemberId) (c : alone.IsCallee p.files id)
@@ -283,54 +252,53 @@ module _ (members : List Member) (is : AreWhole members) (tell : IsToldAbove mem
 
     call : (op : ℕ) (id : MemberId) → IsReached p.files code_list m (jop.Call op id) t
         → (h : IsReceiverOn p.files (look_ups p.files p.image p.near p.tables) p.tables (let n = m.id in n.class)
-        (cells_of t.stack) op id) → IsSelecting members h.form → (IsRest members h.form → Together (jop.Call op id))
-        → Together (jop.Call op id)
-    call op id r h selects rest = by h.form r selects rest
+        (cells_of t.stack) op id) → IsSelecting members h.form → Together (jop.Call op id)
+    call op id r h selects = by h.form r selects
       where
         by : {op : ℕ} {class : List ℕ} {choice : List ℕ → Option Callee} → (f : Chooses p.files (let n = m.id in n.class)
             id (let c = h.method in c.place) (let c = h.method in c.hit) op class choice) → IsReached p.files code_list m
-            (jop.Call op id) t → IsSelecting members f → (IsRest members f → Together (jop.Call op id))
-            → Together (jop.Call op id)
-        by (alone.on_class ordinary wanted) r selects rest =
+            (jop.Call op id) t → IsSelecting members f → Together (jop.Call op id)
+        by (alone.on_class ordinary wanted) r selects =
             ⊎_elim
             (λ hidden. stands 0xB6 id (hidden_stands members is part p at code_list m t id r h.method ordinary wanted hidden
             (let n = m.id in n.class)))
             (λ shown. stands 0xB6 id (on_object part p at code_list m t id h.method ordinary wanted shown r (let n = m.id in
-            n.class) (met_open part p at code_list m t id h.method ordinary wanted shown)))
+            n.class) (stands_open part p at code_list m t id h.method ordinary wanted shown)))
             (true_or_false (let c = h.method in let hit = c.hit in is_package_visible hit.flags))
-        by (alone.itself ground special) r selects rest = absurd selects
-        by (alone.above_holder callee ground ordinary chosen) r selects rest = rest selects
-        by (alone.by_interface ordinary wanted) r selects rest =
+        by (alone.itself ground special) r selects = absurd selects
+        by (alone.above_holder callee ground ordinary chosen) r selects = stands 0xB7 id (above_stands members is tell
+            part p at m t id r h.method ground ordinary)
+        by (alone.by_interface ordinary wanted) r selects =
             let c = h.method in
             let hit = c.hit in
             let o = hit.owner in
             let parts = both_parts (is_interface o.flags) (is_selectable hit.flags) wanted in
             let shown = seen_of part p at id c parts.0 in
             stands 0xB9 id (on_interface part p at code_list m t id c ordinary parts.1 shown parts.0 r (let n = m.id in
-            n.class) (met_open part p at code_list m t id c ordinary parts.1 shown))
+            n.class) (stands_open part p at code_list m t id c ordinary parts.1 shown))
 
     select : (op : JOp) → IsReached p.files code_list m op t → (h : Alone op) → IsSelectingCall members h
-        → (IsRestCall members h → Together op) → Together op
-    select _ r (named_alone.a_call_on_receiver {op = op} {id = id} h) selects rest = call op id r h selects rest
-    select _ r (named_alone.a_field f h) selects rest = elim selects [ ]
-    select _ r (named_alone.a_put_field f h) selects rest = elim selects [ ]
-    select _ r (named_alone.a_static f h) selects rest = elim selects [ ]
-    select _ r (named_alone.a_class fields made are) selects rest = elim selects [ ]
-    select _ r (named_alone.a_static_call h) selects rest = elim selects [ ]
-    select _ r (named_alone.names_nothing off) selects rest = elim selects [ ]
-    select _ r (named_alone.is_on_array on) selects rest = elim selects [ ]
-    select _ r (named_alone.returns is_one) selects rest = elim selects [ ]
-    select _ r named_alone.throws selects rest = elim selects [ ]
-    select _ r (named_alone.a_constant z number holds found) selects rest = elim selects [ ]
-    select _ r (named_alone.an_array c there) selects rest = elim selects [ ]
-    select _ r named_alone.booleans selects rest = elim selects [ ]
-    select _ r named_alone.bytes selects rest = elim selects [ ]
-    select _ r named_alone.shorts selects rest = elim selects [ ]
-    select _ r (named_alone.a_cast kind named there) selects rest = elim selects [ ]
-    select _ r (named_alone.a_test kind named there) selects rest = elim selects [ ]
+        → Together op
+    select _ r (named_alone.a_call_on_receiver {op = op} {id = id} h) selects = call op id r h selects
+    select _ r (named_alone.a_field f h) selects = elim selects [ ]
+    select _ r (named_alone.a_put_field f h) selects = elim selects [ ]
+    select _ r (named_alone.a_static f h) selects = elim selects [ ]
+    select _ r (named_alone.a_class fields made are) selects = elim selects [ ]
+    select _ r (named_alone.a_static_call h) selects = elim selects [ ]
+    select _ r (named_alone.names_nothing off) selects = elim selects [ ]
+    select _ r (named_alone.is_on_array on) selects = elim selects [ ]
+    select _ r (named_alone.returns is_one) selects = elim selects [ ]
+    select _ r named_alone.throws selects = elim selects [ ]
+    select _ r (named_alone.a_constant z number holds found) selects = elim selects [ ]
+    select _ r (named_alone.an_array c there) selects = elim selects [ ]
+    select _ r named_alone.booleans selects = elim selects [ ]
+    select _ r named_alone.bytes selects = elim selects [ ]
+    select _ r named_alone.shorts selects = elim selects [ ]
+    select _ r (named_alone.a_cast kind named there) selects = elim selects [ ]
+    select _ r (named_alone.a_test kind named there) selects = elim selects [ ]
 
-  pub selections_stand : RestStands members → SelectionsStand members
-  selections_stand rest p m at place i t there row h selects =
+  pub selections_stand : SelectionsStand members
+  selections_stand p m at place i t there row h selects =
       let one = is.each (number_of members m) p at in
       select p m at t i.op (reached one.list p.files one.codes one.settings p.tables one.whole m place i t there row) h
-      selects (λ left. rest p m at place i t there row h left)
+      selects
