@@ -6,4 +6,5 @@
 
 pub mod folder;
 pub mod paired;
+pub mod short;
 pub mod unbroken;
