@@ -4,3 +4,12 @@ pub mod Told
 pub mod Tabled
 pub mod Whole
 pub mod Ready
+pub mod ToldPackages
+pub mod ToldKinds
+pub mod ReportLookups
+pub mod ReportCodes
+pub mod ReportSorted
+pub mod ReportAgree
+pub mod ToldAbove
+pub mod KnownAbove
+pub mod Few

@@ -7,6 +7,7 @@ use Rattle.cjc_joint_proof.specs.JointPackages.{files_together}
 use Rattle.cjc_joint_proof.specs.JointTables.{world_together}
 use Rattle.cjc_joint_proof.specs.Worlds.{AreApartFromOutside, outside_classes}
 use Rattle.cjc_joint_whole.specs.Above.{ImportsKeepKinds}
+use Rattle.cjc_joint_whole.specs.Told.{AbstractsKeepKinds, FacesDeclareAgain, OutsideListsAbove}
 use Rattle.cjc_jvm_semantics.specs.OnePackage.{is_initialiser}
 use Rattle.cjc_tokens.specs.Members.{is_exposed}
 use Rattle.cjc_world.specs.Classes.{Class, Member, class_named}
@@ -16,11 +17,11 @@ use Rattle.cjc_world.specs.Supertypes.{Lists}
 
 -- Fair files of a group.
 pub record AreFairTogether (packages : List Package) : Type 0 where
-  -- No class is listed in two export files from outside, or in one and in a package: 201 and 202 are of what one package
-  -- imports.
+  -- No class is listed in two export files from outside, or in one and in a package: 201 and 202 are of what one
+  -- package imports.
   pub outside : AreApartFromOutside (files_together packages)
-  -- A class from outside lists classes as superclasses and interfaces as interfaces, also where no package imports both:
-  -- 208 is of what one package imports.
+  -- A class from outside lists classes as superclasses and interfaces as interfaces, also where no package imports
+  -- both: 208 is of what one package imports.
   pub supers : (n : ℕ) (e : ExportClass) (s : List ℕ) (d : Class)
       → slice_get (outside_classes (files_together packages)) n ≡ Some e → Lists s e.supers
       → class_named (world_together packages) s ≡ Some d → is_interface d.flags ≡ false
@@ -46,3 +47,14 @@ pub record AreFairTogether (packages : List Package) : Type 0 where
   pub open_interfaces : (q k : ℕ) (p : Package) (x : List ℕ) (i : Class) (m : Member) → slice_get packages q ≡ Some p
       → class_named (world p) x ≡ Some i → is_interface i.flags ≡ true → slice_get i.methods k ≡ Some m
       → is_initialiser m.name ≡ false → is_exposed m.flags ≡ true
+  -- Classes and interfaces from outside list what interfaces above them have, as export files list what is inherited:
+  -- no rule compares the export files of several packages from outside.
+  pub inherited : OutsideListsAbove (files_together packages)
+  -- Where an abstract class of a package gets a method of an interface, the nearest public or protected method of that
+  -- name and descriptor on the line of the class, if there is one, is not static: 306 is of what class files declare,
+  -- and 307 of classes that are not abstract.
+  pub abstracts : AbstractsKeepKinds (files_together packages)
+  -- An interface of a package that inherits from an interface a method which java/lang/Object has, too, declares it
+  -- again: else a call by that interface would find the one of java/lang/Object, which is of no interface, and no rule
+  -- tests it.
+  pub objects : FacesDeclareAgain (files_together packages)

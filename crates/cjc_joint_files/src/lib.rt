@@ -3,5 +3,8 @@
 //! here runs.
 #![tactic(auto)]
 
+pub mod implemented;
 pub mod packages;
 pub mod ready;
+pub mod reports;
+pub mod told;

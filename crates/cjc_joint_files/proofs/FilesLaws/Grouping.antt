@@ -5,12 +5,14 @@ use Rattle.std.specs.Prelude.{slice_get}
 use Rattle.cjc_components.specs.Package.{Package, world}
 use Rattle.cjc_joint_proof.specs.Sound.{IsSoundPackage}
 use Rattle.cjc_joint_whole.specs.Above.{FindsAbove}
+use Rattle.cjc_joint_whole.specs.Faces.{FacesSelect, InterfacesAreKnown}
 use Rattle.cjc_joint_whole.specs.Grouped.{AreGrouped, OutsideIsFair}
 use Rattle.cjc_joint_whole.specs.Linking.{KeepGroupRules}
 use Rattle.cjc_joint_whole.specs.Selected.{SelectsAlone}
 use Rattle.cjc_shape_proof.proofs.WrittenLaws.Files.{files_sound}
 use Rattle.cjc_shape_proof.proofs.WrittenLaws.Worlds.{own_ordered}
 use Rattle.cjc_token_proof.specs.List.Listed.{ListTree}
+use Rattle.cjc_vtable.specs.Meant.{HaveOneAccess}
 use Rattle.cjc_world.specs.Files.{Files}
 use Rattle.cjc_world.specs.Upwards.{IsOrdered}
 use Rattle.cjc_joint_files.specs.Fair.{AreFairTogether}
@@ -31,10 +33,8 @@ package_named p w =
     let spelt = laid.spelt in
     ap (λ (l : ListTree). l.«package») written.by_list ∙ sym (ap (λ (f : Files). f.package_name) spelt.world_is)
 
-module _ (packages : List Package) (are : AreWrittenTogether packages) (fair : AreFairTogether packages)
-    (alone : (p : Package) → IsWritten p → SelectsAlone p)
-    (above : (q : ℕ) (p : Package) → slice_get packages q ≡ Some p → FindsAbove p) where
-  keeps : KeepGroupRules packages
+module _ (packages : List Package) (are : AreWrittenTogether packages) (fair : AreFairTogether packages) where
+  pub keeps : KeepGroupRules packages
   keeps = record {
     each = λ q p here. package_sound p (are.each q p here);
     names = λ q p here. package_named p (are.each q p here);
@@ -43,6 +43,11 @@ module _ (packages : List Package) (are : AreWrittenTogether packages) (fair : A
     outside = fair.outside;
   }
 
+module _ (packages : List Package) (are : AreWrittenTogether packages) (fair : AreFairTogether packages)
+    (alone : (p : Package) → IsWritten p → SelectsAlone p) (faces : (p : Package) → IsWritten p → FacesSelect p)
+    (access : (p : Package) → IsWritten p → HaveOneAccess (world p))
+    (above : (q : ℕ) (p : Package) → slice_get packages q ≡ Some p → FindsAbove p)
+    (known : InterfacesAreKnown packages) where
   outside_fair : OutsideIsFair packages
   outside_fair = record {
     supers = fair.supers;
@@ -53,10 +58,13 @@ module _ (packages : List Package) (are : AreWrittenTogether packages) (fair : A
 
   pub are_grouped : AreGrouped packages
   are_grouped = record {
-    keeps = keeps;
+    keeps = keeps packages are fair;
     each = λ q p here. alone p (are.each q p here);
     above = above;
     ordered = λ q p here. package_ordered p (are.each q p here);
     fair = outside_fair;
     open_interfaces = fair.open_interfaces;
+    faces = λ q p here. faces p (are.each q p here);
+    access = λ q p here. access p (are.each q p here);
+    known = known;
   }

@@ -1,7 +1,7 @@
 -- What is read of a group, where nothing is refused: of packages that were converted and of their components it is these
 -- packages, and together they break no rule.
 use Rattle.std.proofs.Common.{◌≡◌, ℕ, zero, suc, refl, sym, ap, subst, ◌∙◌, Bool, true, false, List, [], ◌∷◌, map, Some}
-use Rattle.std.proofs.Common.{inr, ⊎_elim}
+use Rattle.std.proofs.Common.{inl, inr, ⊎_elim}
 use Rattle.std.specs.Prelude.{slice_get}
 use Rattle.cjc_bytes.proofs.Firsts.{first_left, first_of_one, first_right, not_up_to, up_to}
 use Rattle.cjc_bytes.specs.Breaks.{Break, IsFirst}
@@ -14,9 +14,9 @@ use Rattle.cjc_cmd_card.proofs.JudgeFirsts.{one_spelling}
 use Rattle.cjc_cmd_card.proofs.ReportLaws.Free.{codes_are, none_first, spelt, trees, world_is}
 use Rattle.cjc_cmd_card.proofs.ReportLaws.Once.{SentencesHold}
 use Rattle.cjc_cmd_card.specs.declared.running.input.Input.{Input}
-use Rattle.cjc_cmd_link.proofs.Agreed.{are_agreed, together_fault}
+use Rattle.cjc_cmd_link.proofs.Agreed.{are_agreed, miss_none, together_fault}
 use Rattle.cjc_cmd_link.specs.Members.{AreLinked, AreTested, IsLinked, IsTested, exported_by}
-use Rattle.cjc_cmd_link.specs.Refused.{NoPart, by_cycle, of_member, of_script}
+use Rattle.cjc_cmd_link.specs.Refused.{IsFault, IsRefused, NoPart, by_cycle, of_member, of_script}
 use Rattle.cjc_cmd_link.specs.Runs.{IsReady}
 use Rattle.cjc_cmd_link.specs.declared.reads.GroupInput.{GroupInput}
 use Rattle.cjc_cmd_card.specs.LowerScriptText.Scripted.{ScriptTree}
@@ -24,6 +24,7 @@ use Rattle.cjc_components.specs.Bytecode.PackageCodes.{all_codes}
 use Rattle.cjc_components.specs.Components.{components_of}
 use Rattle.cjc_components.specs.Package.{Package}
 use Rattle.cjc_group.specs.Members.{Member as Linked}
+use Rattle.cjc_group.specs.Missing.{missing}
 use Rattle.cjc_group.specs.Rules.{breaks}
 use Rattle.cjc_joint_proof.specs.JointPackages.{files_together}
 use Rattle.cjc_joint_proof.specs.JointTables.{world_together}
@@ -192,18 +193,20 @@ module _ (hold : SentencesHold) (input : GroupInput) (name script : List ℕ) (g
         none_first hold i t.ready t.is_ready m.image t.image m.components t.components t.paired f.broken first.breaks
     no_part q r (of_script is e) = let both = sym ready.is_script ∙ e in cc
 
+    -- of breaks the first of which would be refused there is none
+    unrefused : (bs : List Break) → ((b : Break) → IsFirst b bs
+        → IsFault (IsRefused input name script) (faults.Refused b.refusal)) → bs ≡ []
+    unrefused [] fault = refl
+    unrefused (b ∷ bs) fault =
+        let a = first_there b bs in absurd (⊎_elim (λ none. cc) (λ r. ready.unbroken r.0 r.1) (fault a.0 a.1))
+
     together : breaks linked ≡ []
-    together = by (breaks linked) refl
-      where
-        by : (bs : List Break) → breaks linked ≡ bs → bs ≡ []
-        by [] e = refl
-        by (b ∷ bs) e =
-            let a = first_there b bs in
-            let first : IsFirst a.0 (breaks linked) = subst (IsFirst a.0) (sym e) a.1 in
-            let refusal = (let x = a.0 in x.refusal) in
-            absurd (⊎_elim (λ none. cc) (λ r. ready.unbroken r.0 r.1)
-            (together_fault input linked all_linked name script (faults.Refused refusal) no_part
-            (inr (a.0, first, refl))))
+    together = unrefused (breaks linked) (λ b first. together_fault input linked all_linked name script
+        (faults.Refused b.refusal) no_part (inl (inr (b, first, refl))))
+
+    known : missing linked ≡ []
+    known = unrefused (missing linked) (λ b first. together_fault input linked all_linked name script
+        (faults.Refused b.refusal) no_part (inr (together, inr (b, first, refl))))
 
     free : has_cycle (world_together packages) ≡ false
     free = by (has_cycle (world_together packages)) refl
@@ -211,7 +214,7 @@ module _ (hold : SentencesHold) (input : GroupInput) (name script : List ℕ) (g
         by : (b : Bool) → has_cycle (world_together packages) ≡ b → b ≡ false
         by false e = refl
         by true e = absurd (ready.unbroken (refusal name 204 0) (by_cycle no_part (are_agreed input linked all_linked
-            together) (
+            together) (miss_none input linked all_linked known) (
               linked,
               all_linked,
               ap (λ (fs : List Files). has_cycle (all_classes (joint fs))) (files_linked
@@ -219,7 +222,12 @@ module _ (hold : SentencesHold) (input : GroupInput) (name script : List ℕ) (g
             ) refl))
 
     pub written_together : AreWrittenTogether packages
-    written_together = record { each = written_at input.members packages of; unbroken = together; free = free }
+    written_together = record {
+      each = written_at input.members packages of;
+      unbroken = together;
+      known = known;
+      free = free;
+    }
 
     pub same_group : group ≡ group_of packages
     same_group = are_members input.members packages group of ready.tested

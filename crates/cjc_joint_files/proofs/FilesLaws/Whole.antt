@@ -12,7 +12,8 @@ use Rattle.cjc_joint_proof.proofs.SoundLaws.{apart}
 use Rattle.cjc_joint_theorem.specs.Members.{Member, files_of, images_of}
 use Rattle.cjc_joint_theorem.specs.Ordered.{IsOutsideOrdered}
 use Rattle.cjc_joint_whole.specs.Selected.{SelectTogether}
-use Rattle.cjc_joint_whole.specs.Whole.{AreWhole, IsExport, IsWholeMember, IsWrittenFor, from_outside, of_member}
+use Rattle.cjc_joint_whole.specs.Whole.{AreImplemented, AreWhole, IsExport, IsWholeMember, IsWrittenFor, from_outside}
+use Rattle.cjc_joint_whole.specs.Whole.{of_member}
 use Rattle.cjc_joint_whole.proofs.WholeLaws.Together.{is_begun}
 use Rattle.cjc_jvm_semantics.specs.Group.{is_package_visible, joint_exports}
 use Rattle.cjc_jvm_semantics.specs.OnePackage.{is_initialiser}
@@ -22,7 +23,7 @@ use Rattle.cjc_world.specs.ExportFile.declared.tree.ExportTree.{ExportTree}
 use Rattle.cjc_world.specs.Files.{Files}
 use Rattle.cjc_world.specs.declared.image.StaticImage.{StaticImage}
 use Rattle.cjc_joint_files.specs.Fair.{AreFairTogether}
-use Rattle.cjc_joint_files.specs.Members.{AreImplemented, AreMembersOf}
+use Rattle.cjc_joint_files.specs.Members.{AreMembersOf}
 use Rattle.cjc_joint_files.specs.Written.{IsWritten}
 use Rattle.cjc_joint_files.proofs.FilesLaws.Private.{kept_outside, no_private}
 use Rattle.cjc_joint_files.proofs.FilesLaws.Tabled.{HasFirst, HasRanges, is_member, member_with, not_visible, whole_member}
@@ -120,8 +121,6 @@ module _ (least : HasRanges) where
           same_files = sym so;
           is = same_tree;
           unbound = k.unbound;
-          meant = s.meant;
-          virtuals = s.own;
         }
 
     is_export : (q k : ℕ) (m : Member) (t : ExportTree) → slice_get members q ≡ Some m
