@@ -38,13 +38,13 @@ use Rattle.cjc_shelf.specs.declared.command.status.Status.TheVariants as status
 -- ---- what is read
 
 -- a file that is read has a length that is read
-record Got {X : Type 0} (o : Option (List ℕ)) (next : List ℕ → Verdict X) (x : X) : Type 0 where
-  bytes : List ℕ
-  there : o ≡ Some bytes
-  short : nat_lt longest_file (length bytes) ≡ false
-  then : next bytes ≡ complete x
+pub record Got {X : Type 0} (o : Option (List ℕ)) (next : List ℕ → Verdict X) (x : X) : Type 0 where
+  pub bytes : List ℕ
+  pub there : o ≡ Some bytes
+  pub short : nat_lt longest_file (length bytes) ≡ false
+  pub then : next bytes ≡ complete x
 
-got : {X : Type 0} (name : List ℕ) (next : List ℕ → Verdict X) (o : Option (List ℕ)) (x : X)
+pub got : {X : Type 0} (name : List ℕ) (next : List ℕ → Verdict X) (o : Option (List ℕ)) (x : X)
     → at_file name next o ≡ complete x → Got o next x
 got name next None x e = absurd cc
 got {X} name next (Some bytes) x e = by (nat_lt longest_file (length bytes)) refl e
@@ -55,10 +55,10 @@ got {X} name next (Some bytes) x e = by (nat_lt longest_file (length bytes)) ref
     by false is h = record { bytes = bytes; there = refl; short = is; then = h }
 
 -- reads that are complete go on with what they read
-goes_on : {X Y : Type 0} (v : Verdict X) (f : X → Verdict Y) (x : X) → v ≡ complete x → on_complete v f ≡ f x
+pub goes_on : {X Y : Type 0} (v : Verdict X) (f : X → Verdict Y) (x : X) → v ≡ complete x → on_complete v f ≡ f x
 goes_on v f x e = ap (λ w. on_complete w f) e
 
-done : {X Y : Type 0} (v : Verdict X) (f : X → Verdict Y) (y : Y) → on_complete v f ≡ complete y → (x : X)
+pub done : {X Y : Type 0} (v : Verdict X) (f : X → Verdict Y) (y : Y) → on_complete v f ≡ complete y → (x : X)
     × (v ≡ complete x) × (f x ≡ complete y)
 done (absent name) f y e = absurd cc
 done (too_long name) f y e = absurd cc
@@ -88,7 +88,7 @@ module _ (files : Files) (dir : List ℕ) (x : ListTree × List (List ℕ)) wher
   list_read (Err r) e = absurd cc
   list_read (Ok list) e = let h = files_read list e in (ap (λ (l : ListTree). Ok l) (sym h.0), h.1)
 
-  text_read : (name : List ℕ) → verdict files (plan_of_convert name) ≡ complete x
+  pub text_read : (name : List ℕ) → verdict files (plan_of_convert name) ≡ complete x
       → IsRead x.0 × (verdict files (plan_of_input name dir) ≡ rest)
   text_read name e =
       let g = got name (λ text. verdict files (plan_of_list name text)) (get files name) x e in
@@ -102,7 +102,7 @@ module _ (files : Files) (dir : List ℕ) (x : ListTree × List (List ℕ)) wher
 -- ---- what is answered
 
 -- of a conversion
-abbrev OfConversions : (ListTree → List (List ℕ) → Conversion → Type 0) → Type 0
+abbrev pub OfConversions : (ListTree → List (List ℕ) → Conversion → Type 0) → Type 0
 OfConversions Holds =
     (list : ListTree) (inputs : List (List ℕ)) (made : Conversion) → IsRead list → IsConverted list inputs made
     → Holds list inputs made
@@ -114,7 +114,7 @@ OverFair Holds list inputs made =
     → Holds list inputs made
 
 -- its components are read where they stand
-abbrev AreReadBack : ListTree → List (List ℕ) → Conversion → Type 0
+abbrev pub AreReadBack : ListTree → List (List ℕ) → Conversion → Type 0
 AreReadBack list inputs made =
     (told : Files) (dir name export : List ℕ) → Stand told (map (below dir) (files_made name made.caps export))
     → verdict told (plan_of_parts dir) ≡ complete (parts_of made.caps)
@@ -127,13 +127,12 @@ BreakNothing list inputs made = (b : Break) → by_token.AnyBreaks (input_of lis
 abbrev AreAccepted : ListTree → List (List ℕ) → Conversion → Type 0
 AreAccepted list inputs made = (b : Break) → BreaksTyping (input_of list inputs made.caps) b → ⊥
 
-module _ (back : OfConversions AreReadBack) (fine : OfConversions (OverFair BreakNothing))
-    (accepted : OfConversions (OverFair AreAccepted))
-    (name dir : List ℕ) (files : Files) (is : AreWritten name dir files) where
-  abbrev input : Input
+-- what is read of a list, its files and the folder in which a conversion of them stands
+module _ (back : OfConversions AreReadBack) (name dir : List ℕ) (files : Files) (is : AreWritten name dir files) where
+  abbrev pub input : Input
   input = let made = is.made in input_of is.list is.inputs made.caps
 
-  list_is_read : IsRead is.list
+  pub list_is_read : IsRead is.list
   list_is_read = (text_read files dir (is.list, is.inputs) name is.read).0
 
   parts_read : verdict files (plan_behind_files dir is.list is.inputs) ≡ complete input
@@ -151,18 +150,28 @@ module _ (back : OfConversions AreReadBack) (fine : OfConversions (OverFair Brea
       })) (let made = is.made in parts_of made.caps) (back is.list is.inputs is.made list_is_read is.converted files dir
       (let list = is.list in list.package) (let made = is.made in made.export) is.stand)
 
-  all_read : verdict files (plan_of_verify name dir) ≡ complete input
+  pub input_read : verdict files (plan_of_input name dir) ≡ complete input
+  input_read = (text_read files dir (is.list, is.inputs) name is.read).1 ∙ parts_read
+
+module _ (back : OfConversions AreReadBack) (fine : OfConversions (OverFair BreakNothing))
+    (accepted : OfConversions (OverFair AreAccepted))
+    (name dir : List ℕ) (files : Files) (is : AreWritten name dir files) where
+  abbrev given : Input
+  given = input back name dir files is
+
+  all_read : verdict files (plan_of_verify name dir) ≡ complete given
   all_read =
       verdict-then files (plan_of_input name dir) (λ i. has i)
-      ∙ goes_on (verdict files (plan_of_input name dir)) (λ i. verdict files (has i)) input
-      ((text_read files dir (is.list, is.inputs) name is.read).1 ∙ parts_read)
+      ∙ goes_on (verdict files (plan_of_input name dir)) (λ i. verdict files (has i)) given
+      (input_read back name dir files is)
 
-  no_break : (b : Break) → AnyBreaks input b → ⊥
-  no_break b (on_first x) = fine is.list is.inputs is.made list_is_read is.converted is.trees is.spell is.fair b x
-  no_break b (on_second before p) = accepted is.list is.inputs is.made list_is_read is.converted is.trees is.spell
-      is.fair b p
+  no_break : (b : Break) → AnyBreaks given b → ⊥
+  no_break b (on_first x) = fine is.list is.inputs is.made (list_is_read back name dir files is) is.converted is.trees
+      is.spell is.fair b x
+  no_break b (on_second before p) = accepted is.list is.inputs is.made (list_is_read back name dir files is)
+      is.converted is.trees is.spell is.fair b p
 
-  never_refused : (r : Refusal) → Verifies input (Err r) → ⊥
+  never_refused : (r : Refusal) → Verifies given (Err r) → ⊥
   never_refused r f = no_break f.broken f.first.breaks
 
 -- where the end of what `verify` reads is known, and what it reads breaks no rule, it is done
@@ -178,7 +187,7 @@ module _ (back : OfConversions AreReadBack) (fine : OfConversions (OverFair Brea
         → IfSome told (λ files. AreWritten name dir files → (answer ≡ status.NoMemory) ⊎ (answer ≡ status.Done))
     verified name dir answer None ends = tt
     verified name dir answer (Some files) ends =
-        λ written. ends (input back fine accepted name dir files written) (all_read back fine accepted name dir files
+        λ written. ends (given back fine accepted name dir files written) (all_read back fine accepted name dir files
         written) (never_refused back fine accepted name dir files written)
 
     pub accepts : (r : Request) (old new : Shelved) (from to : Sunk) (answer : Status)

@@ -11,4 +11,5 @@ pub mod Summed
 pub mod Typed
 pub mod Versions
 pub mod Accepting
+pub mod Agreeing
 pub mod Leaving

@@ -24,4 +24,5 @@ pub mod Asked
 pub mod Command
 pub mod Convert
 pub mod Written
+pub mod Together
 pub mod Text

@@ -14,13 +14,16 @@ ghost use Rattle.cjc_shelf.specs.declared.command.status.Status.TheVariants as a
 ghost use Rattle.cjc_run.specs.Request.{Request, convert};
 ghost use Rattle.cjc_run.specs.Command.{command_of};
 ghost use Rattle.cjc_run.specs.Convert.{plan_of_convert};
+ghost use Rattle.cjc_run.specs.Together.{Agrees};
 ghost use Rattle.cjc_run.specs.Written.{Accepts, AreWritten};
 
+use cjc_accepted_files::short::written_files_in_short_mode_are_as_before;
 use cjc_accepted_files::unbroken::{written_files_are_accepted, written_files_break_nothing};
 use cjc_cmd_make::cmd_convert::conversion::one_answer;
 use cjc_cmd_make::report::one_answer as one_summary;
 use cjc_cmd_verify::cmd_card::report::one_answer as one_report;
 use cjc_cmd_verify::one_answer as one_verdict;
+use cjc_joint_files::reports::ready_packages_run_alike;
 
 /// The words and the told files decide one answer: two runs in which no fault count rises and memory is there
 /// end the same way, and of all refusals that a run may answer for them there is one.
@@ -55,4 +58,13 @@ pub(crate) fn written_files_pass()
 {
     written_files_are_accepted();
     written_files_break_nothing();
+}
+
+/// What is run together of packages that conversions wrote agrees.
+pub(crate) fn written_packages_agree()
+    ensures { (asked : Request) (old : Shelved) → Agrees asked old }
+{
+    ready_packages_run_alike();
+    written_files_break_nothing();
+    written_files_in_short_mode_are_as_before();
 }

@@ -9,11 +9,12 @@ ghost use Rattle.cjc_run.specs.Request.{request};
 ghost use Rattle.cjc_run.specs.Asked.{HasSize, asked};
 ghost use Rattle.cjc_run.specs.Command.{command_of};
 ghost use Rattle.cjc_run.specs.Promise.{Promised};
+ghost use Rattle.cjc_run.specs.Together.{Agrees};
 ghost use Rattle.cjc_run.specs.Written.{Accepts};
 
 use crate::command::{Asked, asked_by};
 use crate::converting::gather_convert;
-use crate::laws::written_files_pass;
+use crate::laws::{written_files_pass, written_packages_agree};
 use cjc_cmd_compat::cmd_check::checking::gather_check;
 use cjc_cmd_compat::gather_compat;
 use cjc_cmd_link::{gather_link, gather_linkjvm};
@@ -101,8 +102,14 @@ pub fn run<S: Shelf, O: Sink>(alloc: Global, words: &[Bytes], shelf: &mut S, out
     // no fault count rises.
     ensures accepted { IfSome (request words.now) (λ asked. Accepts asked (S.shelved shelf.old) (S.shelved shelf.new)
         (O.sunk out.old) (O.sunk out.new) result) }
+
+    // What `link` and `linkjvm` print of packages that `convert` wrote agrees: where a text names packages in whose
+    // folders what `convert` makes of their lists stands, none of their methods in int mode, over files that are fair
+    // together, and nothing is refused, these are run, and for every script their reports by name and by token agree.
+    ensures together { IfSome (request words.now) (λ asked. Agrees asked (S.shelved shelf.old)) }
 {
     written_files_pass();
+    written_packages_agree();
     match asked_by(words) {
         None => Status::Usage,
         Some(command) => act(alloc, command, shelf, out),

@@ -25,5 +25,10 @@ returns-in-Some-clause-accepted g c =
     let is = rw c.in-Some.is at c.asked_by.ensures.asked in
     rw (sym is) (c.written_files_pass.ensures (asked c.in-Some.command) _ _ _ _ _ c.act.ensures)
 
+pub returns-in-Some-clause-together : goal.returns-in-Some-clause-together
+returns-in-Some-clause-together g c =
+    let is = rw c.in-Some.is at c.asked_by.ensures.asked in
+    rw (sym is) (c.written_packages_agree.ensures (asked c.in-Some.command) _)
+
 pub act-requires : goal.act-requires
 act-requires g c = rw c.in-Some.is at c.asked_by.ensures.size
