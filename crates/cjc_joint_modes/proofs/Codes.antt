@@ -6,7 +6,7 @@ use Rattle.std.specs.Prelude.{nat_le, nat_lt, ◌==◌, if◌then◌else◌, sum
 use Rattle.std.specs.List.{list_any}
 use Rattle.cjc_bytes.specs.declared.fault.MemberId.{MemberId}
 use Rattle.cjc_bytes.proofs.Lists.{map_append, length_mapped}
-use Rattle.cjc_script.specs.Sorts.{Shape, OfClass, OfNumbers, OfReferences, Booleans, Bytes, Shorts, Ints, shape_named}
+use Rattle.cjc_script.specs.Sorts.{shape_named}
 use Rattle.cjc_script.specs.Sorts.{Sort, Boolean, Byte, Short, Int, Reference, NoValue, Signature, signature_of}
 use Rattle.cjc_script.specs.Sorts.{field_sort}
 use Rattle.cjc_code.specs.ClassFile.Code.{CodeTree}
@@ -23,7 +23,7 @@ use Rattle.cjc_ncode.specs.declared.narrow.NInsn.{NInsn}
 use Rattle.cjc_ncode.specs.declared.narrow.NInsn.TheVariants.{Named}
 use Rattle.cjc_ncode.specs.declared.narrow.NMethod.{NMethod}
 use Rattle.cjc_ncode.specs.declared.narrow.PoolKey.TheVariants as keys
-use Rattle.cjc_ncode.specs.Written.{Resolution, call_by, catches_at, field_access, local, static_access, type_test}
+use Rattle.cjc_ncode.specs.Written.{Resolution, catches_at, field_access, static_access}
 use Rattle.cjc_ncode.specs.IntCode.IntCode.{Before, Reached, Frame, copied, dropped, element_read, element_written}
 use Rattle.cjc_ncode.specs.IntCode.IntCode.{called_with, field_get, field_put, guard, handed_over, is_short, jumped}
 use Rattle.cjc_ncode.specs.IntCode.IntCode.{loads, moved, moved_from, narrowed, nargs, on_stack, place_from, place_in}
@@ -33,6 +33,7 @@ use Rattle.cjc_ncode.specs.IntCode.IntCode.{widest, widest_sum, words, written, 
 use Rattle.cjc_ncode.specs.IntCode.IntCode.{is_reference, scratch, first_word}
 use Rattle.cjc_int_mode.specs.Written.{int_frame, places_from, reached_from, written_in_int_mode}
 use Rattle.cjc_joint_theorem.specs.Asked.{resolved_by, insn_by, code_by}
+use Rattle.cjc_joint_theorem.proofs.CodeLaws.{call_told, chosen, local_by, test_by}
 
 -- a method by its parts
 abbrev with_all : CodeTree → Frame → List Reached → (sum : ℕ) → List NInsn → List ℕ → List NCatch → NMethod
@@ -70,31 +71,22 @@ module _ (q : ℕ) where
   one_of : (b : Bool) (xs ys : List NInsn) → Stays xs → Stays ys → Stays (if b then xs else ys)
   one_of b xs ys e f = either b xs xs ys ys e f
 
-  -- either of two instructions
-  chosen : (b : Bool) (x y x' y' : NInsn) → x' ≡ insn_by q x → y' ≡ insn_by q y → (if b then x' else y')
-      ≡ insn_by q (if b then x else y)
-  chosen true x y x' y' e f = e
-  chosen false x y x' y' e f = f
-
   single : (x y : NInsn) → x ≡ insn_by q y → Told (x ∷ []) (y ∷ [])
   single x y e = ap (λ i. i ∷ []) e
 
   pushed_by : (z : ℤ) → pushed z ≡ insn_by q (pushed z)
-  pushed_by (pos n) = chosen (nat_le n 5) _ _ _ _ refl (chosen (nat_le n 127) _ _ _ _ refl (chosen (nat_le n 32767) _ _
+  pushed_by (pos n) = chosen q (nat_le n 5) _ _ _ _ refl (chosen q (nat_le n 127) _ _ _ _ refl (chosen q (nat_le n 32767) _ _
       _ _ refl refl))
-  pushed_by (negsuc n) = chosen (n == 0) _ _ _ _ refl (chosen (nat_le n 127) _ _ _ _ refl (chosen (nat_le n 32767) _ _
+  pushed_by (negsuc n) = chosen q (n == 0) _ _ _ _ refl (chosen q (nat_le n 127) _ _ _ _ refl (chosen q (nat_le n 32767) _ _
       _ _ refl refl))
-
-  local_by : (short long l : ℕ) → Stays (local short long l)
-  local_by short long l = single _ _ (chosen (nat_le l 3) _ _ _ _ refl refl)
 
   loads_by : (refs : Bool) (n : ℕ) → Stays (loads refs n)
-  loads_by false n = local_by card.iload_0 card.iload n
-  loads_by true n = local_by card.aload_0 card.aload n
+  loads_by false n = local_by q card.iload_0 card.iload n
+  loads_by true n = local_by q card.aload_0 card.aload n
 
   stores_by : (refs : Bool) (n : ℕ) → Stays (stores refs n)
-  stores_by false n = local_by card.istore_0 card.istore n
-  stores_by true n = local_by card.astore_0 card.astore n
+  stores_by false n = local_by q card.istore_0 card.istore n
+  stores_by true n = local_by q card.astore_0 card.astore n
 
   widened_by : (sort : Sort) → Stays (widened sort)
   widened_by sort = one_of (is_short sort) _ _ refl refl
@@ -127,7 +119,7 @@ module _ (q : ℕ) where
   dropped_by (r ∷ rs) = ap (λ xs. dropped r ∷ xs) (dropped_by rs)
 
   copied_by : (n : ℕ) → copied n ≡ insn_by q (copied n)
-  copied_by n = chosen (n == 1) _ _ _ _ refl (chosen (n == 2) _ _ _ _ refl refl)
+  copied_by n = chosen q (n == 1) _ _ _ _ refl (chosen q (n == 2) _ _ _ _ refl refl)
 
   stack_by : (op : ℕ) (rs : List Bool) → Stays (on_stack op rs)
   stack_by op rs =
@@ -148,15 +140,6 @@ module _ (q : ℕ) where
   returned_by (Some Short) = refl
   returned_by (Some (Reference shape)) = refl
   returned_by (Some NoValue) = refl
-
-  test_by : (op : ℕ) (o : Option (Shape (List ℕ))) → Stays (type_test op o)
-  test_by op None = refl
-  test_by op (Some (OfClass class)) = refl
-  test_by op (Some (OfReferences class)) = refl
-  test_by op (Some (OfNumbers Booleans)) = refl
-  test_by op (Some (OfNumbers Bytes)) = refl
-  test_by op (Some (OfNumbers Shorts)) = refl
-  test_by op (Some (OfNumbers Ints)) = refl
 
   -- ---- arguments
 
@@ -179,21 +162,17 @@ module _ (q : ℕ) where
     moved_by word l (sort ∷ sorts) = join _ _ (one_by sort) (moved_by (word + widths (sort ∷ [])) (l + 1) sorts)
       where
         one_by : (sort : Sort) → Stays (moved f sort word l)
-        one_by sort = join _ _ (join _ _ (one_of (is_short sort) _ _ (local_by card.sload_0 card.sload word)
+        one_by sort = join _ _ (join _ _ (one_of (is_short sort) _ _ (local_by q card.sload_0 card.sload word)
             (loads_by (is_reference sort) word)) (widened_by sort)) (stores_by (is_reference sort) (first_word f l))
 
     prologue_by : Stays (prologue f)
     prologue_by = moved_by 0 0 f.params
 
     module _ (r : Resolution) where
-      call_told : (op : ℕ) (m : MemberId) → Told (call_by (resolved_by q r) op m) (call_by r op m)
-      call_told op m = single _ _ (chosen (op == jvm.invokeinterface) _ _ _ _ refl (chosen (op == jvm.invokevirtual) _ _
-          _ _ refl (chosen (op == jvm.invokespecial) _ _ _ _ refl refl)))
-
       called_told : (op : ℕ) (m : MemberId) (o : Option Signature) → Told (called_with f (resolved_by q r) op m o)
           (called_with f r op m o)
-      called_told op m None = call_told op m
-      called_told op m (Some types) = both _ _ _ _ (both _ _ _ _ (over_by types.params) (call_told op m))
+      called_told op m None = call_told q r op m
+      called_told op m (Some types) = both _ _ _ _ (both _ _ _ _ (over_by types.params) (call_told q r op m))
           (result_by types.result)
 
       get_told : (id : MemberId) (o : Option ℤ) → Told (static_get (resolved_by q r) id o) (static_get r id o)
@@ -239,8 +218,8 @@ module _ (q : ℕ) where
       written_by place b here (jop.ANewArray class) = refl
       written_by place b here jop.ArrayLength = refl
       written_by place b here jop.Throw = refl
-      written_by place b here (jop.CheckCast class) = test_by card.checkcast (shape_named class)
-      written_by place b here (jop.InstanceOf class) = join _ _ (test_by card.instanceof (shape_named class)) refl
+      written_by place b here (jop.CheckCast class) = test_by q card.checkcast (shape_named class)
+      written_by place b here (jop.InstanceOf class) = join _ _ (test_by q card.instanceof (shape_named class)) refl
 
       -- ---- a method
 

@@ -16,20 +16,15 @@ use Rattle.cjc_types.specs.Fixpoint.Tables.{HasRow}
 use Rattle.cjc_types.specs.Search.{cells_of}
 use Rattle.cjc_types.specs.declared.state.State.{State}
 use Rattle.cjc_ncode.specs.ByLabel.{Named}
-use Rattle.cjc_ncode.specs.Written.{Resolution}
-use Rattle.cjc_ncode.specs.declared.narrow.PairRole.{PairRole}
-use Rattle.cjc_ncode.specs.declared.narrow.PairRole.TheVariants.{Alone}
 use Rattle.cjc_jvm_semantics.specs.Group.{group_linked}
 use Rattle.cjc_jvm_semantics.specs.Linked.{Method, Linked}
-use Rattle.cjc_narrow.specs.Pairs.Open.{Open, closed}
 use Rattle.cjc_narrow_proof.specs.Runs.Tables.{Tables}
 use Rattle.cjc_narrow_proof.specs.Selection.Tables.{Point}
 use Rattle.cjc_narrow_proof.specs.Tables.Analysis.{Analysis, TypesAreTold, ThrowablesMay, table_of}
 use Rattle.cjc_narrow_proof.specs.Tables.Arrays.{ClassesAreNamed}
 use Rattle.cjc_narrow_proof.specs.Tables.Calls.{IsWhole, IsWordDesc}
 use Rattle.cjc_narrow_proof.specs.Tables.Package.{leaves_frame}
-use Rattle.cjc_narrow_proof.specs.Tables.Pairs.{IsInPair, StandsAlone, stands_alone, opens, goes_on, pushes, gets, puts}
-use Rattle.cjc_narrow_proof.specs.Tables.Pairs.{a_nop, a_narrow, a_null, a_number, a_local, a_constant}
+use Rattle.cjc_narrow_proof.specs.Tables.Pairs.{StandsAlone}
 use Rattle.cjc_narrow_proof.proofs.TablesLaws.Points.{within_at}
 use Rattle.cjc_int_runs.specs.ByModes.{ShortRule, within_frame}
 use Rattle.cjc_int_runs.specs.IntFrames.{IntBody}
@@ -37,6 +32,7 @@ use Rattle.cjc_int_alike.specs.Callees.{IsShortBegun}
 use Rattle.cjc_int_alike.specs.Named.{IsOneWord}
 use Rattle.cjc_int_alike.proofs.Callees.{called_by_mode}
 use Rattle.cjc_int_alike.proofs.ShortCalls.{call_goes_out}
+use Rattle.cjc_int_alike.proofs.ShortRules.{Leaves, it_calls, it_returns, outside, stays, which}
 use Rattle.cjc_int_alike.proofs.ShortReturns.{return_at}
 use Rattle.cjc_joint_theorem.specs.Together.Homes.{Homes, joint_world, HasTablesIn}
 use Rattle.cjc_joint_modes.specs.Codes.{group_analysis_by_mode, group_bodies_by_mode, group_look_ups_by_mode}
@@ -44,61 +40,6 @@ use Rattle.cjc_joint_modes.specs.Codes.{result_for}
 use Rattle.cjc_joint_modes.specs.Names.{AreIntNamedIn}
 use Rattle.cjc_joint_modes.proofs.Begun.{short_begun}
 use Rattle.cjc_joint_modes.proofs.Named.{called_here, return_here, supported_short}
-
--- ---- calls and returns
-
--- what an instruction does to the frame
-data Leaves : JOp → Type 0 where
-  stays : {op : JOp} → leaves_frame op ≡ false → Leaves op
-  it_calls : {op : ℕ} {id : MemberId} → Leaves (jop.Call op id)
-  it_returns : {opcode : ℕ} → Leaves (jop.Return opcode)
-
-which : (op : JOp) → Leaves op
-which jop.Nop = stays refl
-which jop.Null = stays refl
-which (jop.Number z) = stays refl
-which (jop.Load refs k) = stays refl
-which (jop.Store refs k) = stays refl
-which (jop.ArrayLoad n) = stays refl
-which (jop.ArrayStore n) = stays refl
-which (jop.Stack n) = stays refl
-which (jop.Arith n) = stays refl
-which (jop.Inc k z) = stays refl
-which (jop.Narrow n) = stays refl
-which (jop.If n target) = stays refl
-which (jop.Goto target) = stays refl
-which (jop.TableSwitch other low targets) = stays refl
-which (jop.LookupSwitch other cases) = stays refl
-which (jop.Return n) = it_returns
-which (jop.Static put id) = stays refl
-which (jop.Field put id) = stays refl
-which (jop.Call op id) = it_calls
-which (jop.New name) = stays refl
-which (jop.NewArray n) = stays refl
-which (jop.ANewArray name) = stays refl
-which jop.ArrayLength = stays refl
-which jop.Throw = stays refl
-which (jop.CheckCast name) = stays refl
-which (jop.InstanceOf name) = stays refl
-
--- a call or a return is in no pair
-record IsOutside (before : Open) (role : PairRole) (after : Open) : Type 0 where
-  pub before_it : before ≡ closed
-  pub alone : role ≡ Alone
-  pub behind_it : after ≡ closed
-
-outside : {r : Resolution} {o p : Open} {op : JOp} {role : PairRole} → IsInPair r o op role p → leaves_frame op ≡ true
-    → IsOutside o role p
-outside stands_alone e = record { before_it = refl; alone = refl; behind_it = refl }
-outside opens e = absurd cc
-outside (goes_on opened a_nop) e = absurd cc
-outside (goes_on opened (a_narrow other)) e = absurd cc
-outside (pushes a_null) e = absurd cc
-outside (pushes a_number) e = absurd cc
-outside (pushes a_local) e = absurd cc
-outside (pushes (a_constant some)) e = absurd cc
-outside gets e = absurd cc
-outside puts e = absurd cc
 
 -- ---- a method
 

@@ -1,4 +1,5 @@
 pub mod Whole
+pub mod ModesCalls
 pub mod Entries
 pub mod Tokens
 pub mod Linking

@@ -1,6 +1,7 @@
 -- Packages that were tested and break no rule, as members of a group.
 use Rattle.std.specs.Prelude.{◌≡◌, ◌⊎◌, ◌+◌, ◌<◌, ℕ, List, Option, Some, false, length, slice_get, true}
 use Rattle.cjc_bytes.specs.AccessFlags.{is_abstract, is_interface, is_private}
+use Rattle.cjc_bytes.specs.Descriptor.{IsClassName}
 use Rattle.cjc_bytes.specs.declared.settings.Settings.{Settings}
 use Rattle.cjc_bytes.specs.declared.fault.MemberId.{MemberId}
 use Rattle.cjc_components.specs.Bytecode.declared.insn.JInsn.{JInsn}
@@ -30,11 +31,13 @@ use Rattle.cjc_token_proof.specs.Types.Search.{cells_of}
 use Rattle.cjc_jvm_semantics.specs.Linked.{Callee, Method}
 use Rattle.cjc_jvm_semantics.specs.Group.{is_package_visible, joint_exports, joint_image, own_within}
 use Rattle.cjc_jvm_semantics.specs.OnePackage.{ResolvedMember, is_initialiser, method_hit}
+use Rattle.cjc_narrow_proof.specs.Laws.Unbroken.{KeepsNames, NoneWorksOnInt}
 use Rattle.cjc_narrow_proof.specs.Runs.Calls.{Chooses, above_holder, by_interface, itself, on_class}
 use Rattle.cjc_narrow_proof.specs.Runs.Converted.{IsFirst}
 use Rattle.cjc_narrow_proof.specs.Runs.Names.{IsNamed, a_call_on_receiver}
 use Rattle.cjc_narrow_proof.specs.Runs.Tables.{Tables, look_ups}
-use Rattle.cjc_shape_proof.specs.Whole.{IsWhole}
+use Rattle.cjc_shape_proof.specs.Whole.{AreTabled}
+use Rattle.cjc_shape_proof.specs.WorldProof.Files.{AreReadFiles, ExportsAreSound}
 use Rattle.cjc_shape_proof.specs.Written.Converted.{ExportsArePlain}
 use Rattle.cjc_shape_proof.specs.Written.Entries.{UnboundAreOwn}
 use Rattle.cjc_joint_proof.specs.Images.{TellOwnFields}
@@ -45,15 +48,22 @@ use Rattle.cjc_joint_theorem.specs.Ordered.{IsOutsideOrdered}
 use Rattle.cjc_joint_theorem.specs.Together.Homes.{joint_world}
 use Rattle.cjc_joint_theorem.specs.Together.Names.{IsNamedIn}
 
--- A package of read files that was tested and breaks no rule, over sound export files which don't contradict one another
--- and list no private method, and of interfaces no static one, with its tables; what its static image says is of sound
--- types.
-pub record IsWholeMember (p : Member) : Type 0 where
+-- The files of a package that was tested and breaks no rule, over sound export files, whichever of its methods work on
+-- int.
+pub record IsReadPackage (list : List ℕ) (files : Files) (codes : List MethodCode) (settings : Settings) : Type 0 where
+  pub unbroken : KeepsNames list files codes settings
+  pub package_name : IsClassName files.package_name
+  pub read : AreReadFiles files
+  pub sound : ExportsAreSound files
+
+-- A package of such files, over export files which don't contradict one another and list no private method, and of
+-- interfaces no static one. What is asked of its code, and of what its static image says, is one parameter.
+pub record IsMemberWith (Coded : List MethodCode → Type 0) (p : Member) : Type 0 where
   pub list : List ℕ
   pub codes : List MethodCode
   pub settings : Settings
-  pub whole : IsWhole list p.files codes settings p.tables
-  pub first : IsFirst (look_ups p.files p.image p.near p.tables) p.files p.image
+  pub whole : IsReadPackage list p.files codes settings
+  pub coded : Coded codes
   pub plain : ExportsArePlain p.files
   pub agree : ExportsAgree (all_classes p.files)
   pub no_private : (k i : ℕ) (e : ExportClass) (m : ExportMethod)
@@ -64,6 +74,16 @@ pub record IsWholeMember (p : Member) : Type 0 where
   pub interfaces : (x : List ℕ) (c : Class) (i : ℕ) (m : WorldMember) → class_named (all_classes p.files) x ≡ Some c
       → is_interface c.flags ≡ true → slice_get c.methods i ≡ Some m → is_initialiser m.name ≡ false
       → is_package_visible m.flags ≡ false
+
+-- None of its methods works on int, and each has its tables; what its static image says is of sound types.
+pub record IsCodedShort (p : Member) (codes : List MethodCode) : Type 0 where
+  pub no_int : NoneWorksOnInt p.files codes
+  pub tabled : AreTabled p.files codes p.tables
+  pub first : IsFirst (look_ups p.files p.image p.near p.tables) p.files p.image
+
+-- a package none of whose methods works on int
+abbrev pub IsWholeMember : Member → Type 0
+IsWholeMember p = IsMemberWith (IsCodedShort p) p
 
 -- The export file is the one that is written for a package of these files. The static methods and constructors that it
 -- lists are those that the classes of the package declare.
@@ -99,8 +119,8 @@ AreImplemented group = (q j k n i : ℕ) (p m : Files) (t u : ClassTree) (x : Me
 
 -- Such packages, whose names differ, and which import what is written for packages before them, and export files from
 -- outside, whose classes list what is of its kind. Their images tell fields of their own classes.
-pub record AreWhole (members : List Member) : Type 0 where
-  pub each : (q : ℕ) (p : Member) → slice_get members q ≡ Some p → IsWholeMember p
+pub record AreWholeWith (Coded : ℕ → Member → List MethodCode → Type 0) (members : List Member) : Type 0 where
+  pub each : (q : ℕ) (p : Member) → slice_get members q ≡ Some p → IsMemberWith (Coded q p) p
   pub sound : AreSound (files_of members)
   pub outside : AreApartFromOutside (files_of members)
   pub written : (q k : ℕ) (p : Member) (t : ExportTree) → slice_get members q ≡ Some p
@@ -113,6 +133,10 @@ pub record AreWhole (members : List Member) : Type 0 where
   -- Virtual Machine Specification 2.2.2, section 5.9), and no rule tests that
   pub shown : (k i : ℕ) (e : ExportClass) (m : ExportMethod) → slice_get (outside_classes (files_of members)) k ≡ Some e
       → slice_get e.methods i ≡ Some m → is_initialiser m.name ≡ false → is_package_visible m.flags ≡ false
+
+-- such packages, none of whose methods works on int
+abbrev pub AreWhole : List Member → Type 0
+AreWhole members = AreWholeWith (λ q p codes. IsCodedShort p codes) members
 
 -- ---- what is left to show of names in code
 

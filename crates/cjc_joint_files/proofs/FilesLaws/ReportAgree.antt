@@ -1,7 +1,7 @@
 -- The joint reports of packages that were converted, by name and by token: both are those of the packages' narrow code,
 -- which by token has its handlers in the order of the table.
-use Rattle.std.proofs.Common.{◌≡◌, ℕ, zero, suc, ◌*◌, ◌<◌, ◌≤◌, refl, sym, ap, subst, ◌∙◌, arith, List, [], ◌∷◌, length}
-use Rattle.std.specs.Prelude.{◌≢◌, All, Option, Some, None, slice_get, slice_index_or, unwrap_or}
+use Rattle.std.proofs.Common.{◌≡◌, ℕ, zero, suc, ◌<◌, refl, sym, ap, subst, ◌∙◌, arith, List, [], ◌∷◌, length}
+use Rattle.std.specs.Prelude.{◌≢◌, Option, Some, None, slice_get, slice_index_or, unwrap_or}
 use Rattle.cjc_components.specs.Package.{Package, pool}
 use Rattle.cjc_joint_proof.specs.Begun.{all_images}
 use Rattle.cjc_joint_proof.specs.JointCode.{JointCalls, run as run_in_packages}

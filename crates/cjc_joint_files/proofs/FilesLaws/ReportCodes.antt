@@ -1,7 +1,6 @@
 -- The narrow code that members have by their tables is, of each method of a class file, what its package has in Method.
-use Rattle.std.proofs.Common.{◌≡◌, ℕ, zero, suc, refl, sym, ap, subst, ◌∙◌, Bool, true, false, List, [], ◌∷◌}
+use Rattle.std.proofs.Common.{◌≡◌, ℕ, zero, suc, refl, sym, ap, ◌∙◌, Bool, true, false, List, [], ◌∷◌}
 use Rattle.std.specs.Prelude.{Option, Some, None, option_and_then, option_map, slice_get, unwrap_or, if◌then◌else◌}
-use Rattle.cjc_bytes.specs.declared.fault.MemberId.{MemberId}
 use Rattle.cjc_components.specs.Package.{Package, pool}
 use Rattle.cjc_joint_proof.proofs.PackageNames.{package_is}
 use Rattle.cjc_joint_proof.proofs.SoundLaws.{apart}

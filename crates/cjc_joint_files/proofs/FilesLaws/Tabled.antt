@@ -13,6 +13,7 @@ use Rattle.cjc_joint_whole.specs.Whole.{IsWholeMember}
 use Rattle.cjc_jvm_semantics.specs.Group.{is_package_visible}
 use Rattle.cjc_jvm_semantics.specs.Linked.{Method}
 use Rattle.cjc_jvm_semantics.specs.OnePackage.{is_initialiser, method_at}
+use Rattle.cjc_narrow_proof.proofs.LawsLaws.Instructions.{kept_names}
 use Rattle.cjc_narrow_proof.specs.Runs.Converted.{IsFirst}
 use Rattle.cjc_narrow_proof.specs.Runs.Tables.{Tables, look_ups, narrow_codes}
 use Rattle.cjc_shape_proof.proofs.WrittenLaws.Files.{is_checked, same_files}
@@ -116,13 +117,24 @@ module _ (least : HasRanges) (p : Package) (is : IsWritten p) where
     whole_member =
         let c = is.converted in
         let checked = is_checked is.list is.files is.judged p c in
+        let whole = is_whole in
+        let u = whole.unbroken in
         record {
           list = list.name;
           codes = codes;
           settings = settings_of list;
-          whole = is_whole;
-          first = first list.name p.files codes (settings_of list) tables is_whole p.image image checked.initialisers
-              near;
+          whole = record {
+            unbroken = kept_names u;
+            package_name = whole.package_name;
+            read = whole.read;
+            sound = whole.sound;
+          };
+          coded = record {
+            no_int = u.no_int;
+            tabled = whole.tabled;
+            first = first list.name p.files codes (settings_of list) tables whole p.image image checked.initialisers
+                near;
+          };
           plain = c.plain;
           agree = c.agree;
           no_private = no_private;

@@ -8,6 +8,7 @@ use Rattle.cjc_joint_proof.specs.Images.{TellOwnFields}
 use Rattle.cjc_joint_proof.specs.JointPackages.{AreLinked, IsLinked, files_together, to_outside, to_package}
 use Rattle.cjc_joint_proof.specs.Sound.{AreSound}
 use Rattle.cjc_joint_proof.specs.Worlds.{AreApartFromOutside, outside_classes}
+use Rattle.cjc_joint_proof.proofs.BegunLaws.{own_fields}
 use Rattle.cjc_joint_proof.proofs.SoundLaws.{apart}
 use Rattle.cjc_joint_theorem.specs.Members.{Member, files_of, images_of}
 use Rattle.cjc_joint_theorem.specs.Ordered.{IsOutsideOrdered}
@@ -27,7 +28,6 @@ use Rattle.cjc_joint_files.specs.Members.{AreMembersOf}
 use Rattle.cjc_joint_files.specs.Written.{IsWritten}
 use Rattle.cjc_joint_files.proofs.FilesLaws.Private.{kept_outside, no_private}
 use Rattle.cjc_joint_files.proofs.FilesLaws.Tabled.{HasFirst, HasRanges, is_member, member_with, not_visible, whole_member}
-use Rattle.cjc_joint_files.proofs.FilesLaws.Told.{own_fields}
 
 -- each of these packages was converted
 abbrev pub AllWritten : List Package → Type 0

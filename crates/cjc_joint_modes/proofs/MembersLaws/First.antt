@@ -1,87 +1,34 @@
 -- What the images of several packages by modes say together is of sound types.
-use Rattle.std.proofs.Common.{◌≡◌, ℕ, zero, suc, ◌+◌, arith, true, List, [], ◌∷◌, ◌++◌, map, flat_map, length}
+use Rattle.std.proofs.Common.{◌≡◌, ℕ, suc, ◌+◌, true, List, [], ◌∷◌, map, flat_map}
 use Rattle.std.proofs.Common.{Some}
 use Rattle.std.proofs.Common.{refl, sym, ap, subst, ◌∙◌}
 use Rattle.std.specs.Prelude.{slice_get, option_map, Bool}
 use Rattle.std.specs.List.{AllByRecursion}
 use Rattle.cjc_bytes.specs.declared.fault.MemberId.{MemberId}
-use Rattle.cjc_bytes.proofs.Gets.{get_behind, get_mapped, in_front, mapped_at}
+use Rattle.cjc_bytes.proofs.Gets.{get_mapped, mapped_at}
 use Rattle.cjc_bytes.proofs.Lists.{map_append}
-use Rattle.cjc_script.specs.declared.value.Value.{Value}
-use Rattle.cjc_script.specs.declared.report.FieldValue.{FieldValue}
-use Rattle.cjc_script.specs.Sorts.{Sort, Shape, shape_name, field_sort}
-use Rattle.cjc_card_semantics.specs.Bytecode.Effects.{HeapObject, Slot, shape}
+use Rattle.cjc_script.specs.Sorts.{Shape, shape_name}
+use Rattle.cjc_card_semantics.specs.Bytecode.Effects.{HeapObject}
 use Rattle.cjc_world.specs.Files.{Files}
-use Rattle.cjc_world.specs.declared.image.ArrayCell.{ArrayCell}
 use Rattle.cjc_world.specs.declared.image.StaticImage.{StaticImage}
 use Rattle.cjc_ncode.specs.ByLabel.{Named}
 use Rattle.cjc_jvm_semantics.specs.OnePackage.{cells}
 use Rattle.cjc_jvm_semantics.specs.Group.{joint, joint_image}
 use Rattle.cjc_narrow.specs.Rows.Package.{first_array, first_cell, named}
-use Rattle.cjc_narrow_proof.specs.Selection.Relation.{Heap, CellFits, a_boolean, a_byte, a_short, an_int, a_null}
-use Rattle.cjc_narrow_proof.specs.Selection.Relation.{an_object, SlotsFit, no_slots, slot}
+use Rattle.cjc_narrow_proof.specs.Selection.Relation.{Heap}
+use Rattle.cjc_narrow_proof.specs.Selection.Relation.{SlotsFit, no_slots}
 use Rattle.cjc_narrow_proof.specs.Runs.Converted.{IsFirst, IsFirstArray}
-use Rattle.cjc_joint_proof.specs.Images.{arrays_before, cell_behind, value_behind}
+use Rattle.cjc_joint_proof.specs.Images.{arrays_before}
 use Rattle.cjc_joint_proof.proofs.ImageLaws.{cells_move, cells_split}
 use Rattle.cjc_joint_theorem.specs.Asked.{group_named}
 use Rattle.cjc_jvm_semantics.specs.Linked.{Method}
 use Rattle.cjc_int_alike.specs.ByModes.{look_ups_by_mode}
 use Rattle.cjc_joint_theorem.specs.Members.{Member, files_of, images_of, homes_of, tables_of}
+use Rattle.cjc_joint_theorem.proofs.MembersLaws.First.{array_at, both_all, both_fit, cells_fit}
 use Rattle.cjc_joint_theorem.proofs.MembersLaws.Worlds.{member_at, files_at}
 use Rattle.cjc_joint_modes.specs.Codes.{group_look_ups_by_mode}
 use Rattle.cjc_joint_modes.specs.Members.{modes_of, AreMembersByModes}
 use Rattle.cjc_joint_modes.proofs.MembersLaws.Worlds.{are_apart, supers_stay}
-
--- ---- lists
-
-both_all : {A : Type 0} (P : A → Type 0) (xs ys : List A) → AllByRecursion P xs → AllByRecursion P ys
-    → AllByRecursion P (xs ++ ys)
-both_all P [] ys h g = g
-both_all P (x ∷ xs) ys h g = (h.0, both_all P xs ys h.1 g)
-
-both_fit : (l : Named) (heap : Heap) (xs ys : List (Slot MemberId)) → SlotsFit l heap xs → SlotsFit l heap ys
-    → SlotsFit l heap (xs ++ ys)
-both_fit l heap _ ys no_slots g = g
-both_fit l heap _ ys (slot {slots = xs} one h) g = slot one (both_fit l heap xs ys h g)
-
--- an array of an image among those of all
-array_at : (images : List StaticImage) (q k : ℕ) (i : StaticImage) (a : ArrayCell) → slice_get images q ≡ Some i
-    → slice_get i.arrays k ≡ Some a
-    → slice_get (flat_map (λ (i : StaticImage). i.arrays) images) (arrays_before images q + k) ≡ Some a
-array_at [] q k i a is at = cc
-array_at (j ∷ images) zero k i a is at =
-    let same : j ≡ i = cc in
-    let z : 0 + k ≡ k = omega arith in
-    ap (slice_get (j.arrays ++ flat_map (λ (i : StaticImage). i.arrays) images)) z
-    ∙ in_front j.arrays (flat_map (λ (i : StaticImage). i.arrays) images) k a
-    (ap (λ (v : StaticImage). slice_get v.arrays k) same ∙ at)
-array_at (j ∷ images) (suc q) k i a is at =
-    let s : length j.arrays + arrays_before images q + k ≡ length j.arrays + (arrays_before images q + k) = omega arith
-    in
-    ap (slice_get (j.arrays ++ flat_map (λ (i : StaticImage). i.arrays) images)) s
-    ∙ (get_behind j.arrays (flat_map (λ (i : StaticImage). i.arrays) images) (arrays_before images q + k)
-    ∙ array_at images q k i a is at)
-
--- ---- cells of one package
-
-module _ (small large : Named) (one all : Heap) (before : ℕ)
-    (is_of : (a b : Shape (List ℕ)) → small.is_of a b ≡ true → large.is_of a b ≡ true)
-    (keeps : (k : ℕ) (thing : HeapObject (List ℕ) MemberId) → slice_get one k ≡ Some thing
-    → slice_get all (before + k) ≡ Some thing) where
-  cell_fits : (sort : Sort) (v : Value) → CellFits small one sort v → CellFits large all sort (value_behind before v)
-  cell_fits _ _ (a_boolean h) = a_boolean h
-  cell_fits _ _ (a_byte h) = a_byte h
-  cell_fits _ _ (a_short h) = a_short h
-  cell_fits _ _ (an_int h) = an_int h
-  cell_fits _ _ a_null = a_null
-  cell_fits _ _ (an_object {kind = kind} {k = k} thing at is) = an_object thing (keeps k thing at) (is_of (shape thing)
-      kind is)
-
-  cells_fit : (xs : List FieldValue) → SlotsFit small one (map first_cell xs)
-      → SlotsFit large all (map first_cell (map (cell_behind before) xs))
-  cells_fit [] h = no_slots
-  cells_fit (x ∷ xs) (slot one_fits h) = slot (cell_fits (field_sort (let f = x.field in f.desc)) x.value one_fits)
-      (cells_fit xs h)
 
 -- ---- all packages
 

@@ -8,7 +8,7 @@ use Rattle.cjc_types.specs.declared.state.State.{State}
 use Rattle.cjc_types.specs.Fixpoint.Tables.{HasRow}
 use Rattle.cjc_types.specs.Flow.{body_of}
 use Rattle.cjc_types.specs.Tables.{Breach, IsLeastTable}
-use Rattle.cjc_narrow_proof.specs.LowerIntervals.Tables.{IsLeastRanges, Passes}
+use Rattle.cjc_narrow_proof.specs.LowerIntervals.Tables.{IsLeastRanges}
 use Rattle.cjc_jvm_semantics.specs.Linked.{Method}
 use Rattle.cjc_jvm_semantics.specs.Group.{files_of_class}
 use Rattle.cjc_jvm_semantics.specs.OnePackage.{method_by}
@@ -23,7 +23,7 @@ use Rattle.cjc_joint_theorem.specs.Members.{Member, files_of, number_of, member_
 use Rattle.cjc_joint_theorem.specs.Members.{types_by, ranges_by, tables_of}
 use Rattle.cjc_joint_theorem.specs.Rules.{CallsStay, SpecialsStay}
 use Rattle.cjc_joint_theorem.proofs.RuleLaws.{breach_stays, specials_do}
-use Rattle.cjc_joint_theorem.proofs.MembersLaws.Methods.{row_of}
+use Rattle.cjc_joint_theorem.proofs.MembersLaws.Methods.{retabled, row_of}
 use Rattle.cjc_joint_theorem.proofs.MembersLaws.Worlds.{files_at}
 use Rattle.cjc_int_mode.specs.declared.modes.Mode.TheVariants as modes
 use Rattle.cjc_int_mode.specs.Room.{IsRoom}
@@ -33,34 +33,7 @@ use Rattle.cjc_joint_modes.specs.Codes.{HasIntTablesIn}
 use Rattle.cjc_joint_modes.specs.Members.{int_by, modes_of, AreMembersByModes}
 use Rattle.cjc_joint_modes.proofs.MembersLaws.Worlds.{are_apart, supers_stay}
 
--- tables that say the same of a method
-retabled : (files : Files) (one other : Tables) (m : Method) → other.types m ≡ one.types m → other.ranges m
-    ≡ one.ranges m → HasTables files one m → HasTables files other m
-retabled files one other m types ranges h = record {
-  code = h.code;
-  class = h.class;
-  method = h.method;
-  tree = h.tree;
-  of_package = h.of_package;
-  is = h.is;
-  table = h.table;
-  is_table = h.is_table;
-  types = types ∙ h.types;
-  ranges = subst (λ rows. IsLeastRanges (body_of h.class h.method h.tree (let code = h.code in code.insns))
-      (constant_named files (all_classes files)) rows (other.ranges m)) (sym types) (subst (λ rows. IsLeastRanges
-      (body_of h.class h.method h.tree (let code = h.code in code.insns)) (constant_named files (all_classes files))
-      (one.types m) rows) (sym ranges) h.ranges);
-  passes = subst (λ rows. Passes (body_of h.class h.method h.tree (let code = h.code in code.insns)) rows
-      (other.ranges m)) (sym types) (subst (λ rows. Passes (body_of h.class h.method h.tree (let code = h.code
-      in code.insns)) (one.types m) rows) (sym ranges) h.passes);
-  found = h.found;
-  desc = h.desc;
-  named = h.named;
-  begins = h.begins;
-  caught = h.caught;
-}
-
--- the same of a method in int mode
+-- tables that say the same of a method in int mode
 retabled_int : (files : Files) (one other : Tables) (m : Method) → other.types m ≡ one.types m → other.ranges m
     ≡ one.ranges m → HasIntTables files one m → HasIntTables files other m
 retabled_int files one other m types ranges h =

@@ -7,17 +7,13 @@ use Rattle.cjc_bytes.specs.AccessFlags.{is_interface, is_private, is_static}
 use Rattle.cjc_bytes.specs.declared.fault.MemberId.{MemberId}
 use Rattle.cjc_bytes.proofs.Bools.{not_false, or_left, or_right, true_not_false, true_or_false}
 use Rattle.cjc_components.specs.Bytecode.declared.insn.JOp.TheVariants as jop
-use Rattle.cjc_jvm_semantics.specs.Group.{is_exposed, is_open, is_package_visible, joint, joint_image, joint_method}
+use Rattle.cjc_jvm_semantics.specs.Group.{is_exposed, is_open, is_package_visible, joint, joint_method}
 use Rattle.cjc_jvm_semantics.specs.Group.{package_of}
 use Rattle.cjc_jvm_semantics.specs.Linked.{Callee, Method}
 use Rattle.cjc_jvm_semantics.specs.OnePackage.{ResolvedMember, first_super, is_constructor, is_initialiser, method_hit}
 use Rattle.cjc_jvm_semantics.specs.OnePackage.{of_class}
-use Rattle.cjc_narrow_proof.specs.Laws.Unbroken.{AreSpelt}
-use Rattle.cjc_narrow_proof.specs.NCode.ByLabel.{Named}
-use Rattle.cjc_narrow_proof.specs.Runs.Calls as alone
 use Rattle.cjc_narrow_proof.specs.Runs.Tables.{narrow_codes}
 use Rattle.cjc_narrow_proof.specs.Script.Sorts.{shape_name}
-use Rattle.cjc_narrow_proof.proofs.LawsLaws.Instructions.{kept_names}
 use Rattle.cjc_shape_proof.specs.WorldProof.Calls.Solid.{HasCode, IsSolid}
 use Rattle.cjc_shape_proof.proofs.FindsLaws.Calls.{code_above, named_call}
 use Rattle.cjc_shape_proof.proofs.FindsLaws.Receivers.{root_of}
@@ -53,15 +49,16 @@ use Rattle.cjc_joint_proof.specs.Worlds.{before}
 use Rattle.cjc_joint_proof.proofs.PackageNames.{package_is}
 use Rattle.cjc_joint_proof.proofs.SoundLaws.{apart}
 use Rattle.cjc_joint_proof.proofs.WorldLaws.{own_is_found}
-use Rattle.cjc_joint_theorem.specs.Members.{Member, files_of, homes_of, images_of, tables_of}
-use Rattle.cjc_joint_theorem.specs.Together.Calls.{IsChosenIn, IsReceiverIn, above_together, selected_together}
+use Rattle.cjc_joint_theorem.specs.Members.{Member, files_of}
+use Rattle.cjc_joint_theorem.specs.Together.Calls.{above_together, selected_together}
 use Rattle.cjc_joint_theorem.specs.Together.Calls as together
-use Rattle.cjc_joint_theorem.specs.Together.Homes.{group_look_ups, joint_world}
-use Rattle.cjc_joint_theorem.proofs.MembersLaws.Worlds.{files_at, type_there}
+use Rattle.cjc_joint_theorem.specs.Together.Homes.{joint_world}
+use Rattle.cjc_joint_theorem.proofs.MembersLaws.Worlds.{files_at}
 use Rattle.cjc_joint_theorem.proofs.OrderedLaws.Ordered.{super_there}
 use Rattle.cjc_joint_theorem.proofs.OrderedLaws.Standing.{HasStanding, class_stands}
+use Rattle.cjc_joint_whole.specs.ModesCalls.{IsChosenIn, IsNamedCallee, IsReceiverIn, chooses_import, chooses_method}
 use Rattle.cjc_joint_whole.specs.Told.{IsToldAbove}
-use Rattle.cjc_joint_whole.specs.Whole.{AreWhole}
+use Rattle.cjc_joint_whole.specs.Whole.{AreWholeWith}
 use Rattle.cjc_joint_whole.proofs.WholeLaws.AboveFinds.{IsAbove, open_above}
 use Rattle.cjc_joint_whole.proofs.WholeLaws.AboveHidden.{hidden_above}
 use Rattle.cjc_joint_whole.proofs.WholeLaws.AboveLines.{either_over}
@@ -73,12 +70,12 @@ use Rattle.cjc_joint_whole.proofs.WholeLaws.Coded as coded
 use Rattle.cjc_joint_whole.proofs.WholeLaws.Exposed.{named_here, own_here}
 use Rattle.cjc_joint_whole.proofs.WholeLaws.HiddenStands.{shown_entry}
 use Rattle.cjc_joint_whole.proofs.WholeLaws.Implemented.{open_by}
-use Rattle.cjc_joint_whole.proofs.WholeLaws.Members.{are_members, ordered_together, plain_together, supers_together}
+use Rattle.cjc_joint_whole.proofs.WholeLaws.Members.{ordered_together, plain_together, supers_together, type_together}
 use Rattle.cjc_joint_whole.proofs.WholeLaws.Nearest.{line_ground, only}
 use Rattle.cjc_joint_whole.proofs.WholeLaws.Owners.{HasOwner, own_met, owner_of}
 use Rattle.cjc_joint_whole.proofs.WholeLaws.Reached.{IsReached}
 use Rattle.cjc_joint_whole.proofs.WholeLaws.Shown.{open_parts}
-use Rattle.cjc_joint_whole.proofs.WholeLaws.Solid.{solid_at}
+use Rattle.cjc_joint_whole.proofs.WholeLaws.Solid.{solid_at, spelt as spelt_of}
 use Rattle.cjc_joint_whole.proofs.WholeLaws.Specials.{private_is}
 
 -- ---- tests
@@ -125,9 +122,10 @@ record IsMet (members : List Member) (id : MemberId) (hit : ResolvedMember) : Ty
   is_met : method_hit (joint_world (files_of members)) there ≡ Some met
   may : is_selectable met.flags ≡ true
 
-module _ (members : List Member) (is : AreWhole members) (tell : IsToldAbove members) (q : ℕ) (p : Member)
+module _ {K : _} (members : List Member) (is : AreWholeWith K members) (tell : IsToldAbove members) (q : ℕ)
+    (p : Member)
     (at : slice_get members q ≡ Some p) (m : Method) (t : State) (id : MemberId)
-    (r : IsReached p.files (let one = is.each q p at in one.codes) m (jop.Call 0xB7 id) t) (c : alone.IsCallee p.files id)
+    (r : IsReached p.files (let one = is.each q p at in one.codes) m (jop.Call 0xB7 id) t) (c : IsNamedCallee p.files id)
     (static : (let hit = c.hit in is_static hit.flags) ≡ false)
     (special : (let hit = c.hit in is_constructor id.name || is_private hit.flags) ≡ false) where
   abbrev group : List Files
@@ -138,9 +136,6 @@ module _ (members : List Member) (is : AreWhole members) (tell : IsToldAbove mem
 
   abbrev v : List Class
   v = all_classes p.files
-
-  abbrev look : Named
-  look = group_look_ups group (joint_image (images_of members)) (homes_of members) (tables_of members)
 
   abbrev stack : List Cell
   stack = cells_of t.stack
@@ -200,13 +195,10 @@ module _ (members : List Member) (is : AreWhole members) (tell : IsToldAbove mem
       let one = is.each q p at in
       let whole = one.whole in
       let un = whole.unbroken in
-      let spelt : AreSpelt p.files = record {
-        package_name = whole.package_name;
-        exports = (let s = whole.sound in s.names);
-      } in
+      let spelt = spelt_of one.list p.files one.codes one.settings whole in
       let root = root_of p.files whole.sound in
       let written = narrow_codes p.files p.near p.tables in
-      let n = named_call one.list p.files one.codes one.settings (kept_names un) spelt whole.read solid root
+      let n = named_call one.list p.files one.codes one.settings un spelt whole.read solid root
       p.image written u 0xB7 id r.insn in
       let o = owned in
       let k = n.at in
@@ -220,7 +212,7 @@ module _ (members : List Member) (is : AreWhole members) (tell : IsToldAbove mem
       let unfit = last_test (is_constructor id.name) (is_private member.flags) (is_unfit_super v u id) both
       n.fit_class in
       let bodiless = is_bodiless (subset.hit v false (selected v u.superclass id.name id.desc)) in (
-        code_above one.list p.files one.codes one.settings (kept_names un) spelt whole.read solid root p.image
+        code_above one.list p.files one.codes one.settings un spelt whole.read solid root p.image
             written u.superclass id.name id.desc (or_right (not (is_below v u.superclass id.class)) bodiless
             unfit),
         not_false (is_below v u.superclass id.class) (or_left (not (is_below v u.superclass
@@ -466,13 +458,13 @@ module _ (members : List Member) (is : AreWhole members) (tell : IsToldAbove mem
 
   chosen : (type : List ℕ) → Below w (receiver type) u.superclass → (callee : Callee) (y : List ℕ)
       → IsReachedOf members is id true y callee → Below w u.superclass y → starts 91 y ≡ false
-      → IsChosenIn group (homes_of members) (tables_of members) id type callee
-  chosen type way _ y (coded.inside b same) on name = together.inside b (subst (λ z. is_subtype w type z ≡ true)
+      → IsChosenIn members id type callee
+  chosen type way _ y (coded.inside own same) on name = chooses_method own (subst (λ z. is_subtype w type z ≡ true)
       (sym same) (below_type w type y name (below_on w (receiver type) u.superclass y way on)))
-  chosen type way _ y (coded.abroad e) on name = together.abroad e
+  chosen type way _ y (coded.abroad e) on name = chooses_import e
 
-  call_stands : (x : IsMet members id c.hit) → IsAbove members is p id u.superclass x.met → IsReceiverIn group look
-      (homes_of members) (tables_of members) p.files holder stack 0xB7 id
+  call_stands : (x : IsMet members id c.hit) → IsAbove members is p id u.superclass x.met
+      → IsReceiverIn members id p.files holder stack 0xB7
   call_stands x h =
       let met = x.met in
       let bound = bound_off (is_constructor id.name) met.flags ordinary x.may in
@@ -494,9 +486,7 @@ module _ (members : List Member) (is : AreWhole members) (tell : IsToldAbove mem
           is_met = x.is_met;
           is_above = above_hit;
           no_initialiser = c.no_initialiser;
-          desc = c.desc;
-          result = λ kind e. type_there members (are_members members is) q p.files (files_at members q p at) kind
-              (c.result kind e);
+          result = λ kind e. type_together members is q p.files (files_at members q p at) kind (c.result kind e);
         };
         class = holder;
         choice = λ type. above_together group met holder id;
@@ -514,7 +504,7 @@ module _ (members : List Member) (is : AreWhole members) (tell : IsToldAbove mem
       }
 
   -- it stands
-  pub above_stands : IsReceiverIn group look (homes_of members) (tables_of members) p.files holder stack 0xB7 id
+  pub above_stands : IsReceiverIn members id p.files holder stack 0xB7
   above_stands = ⊎_elim
       (λ hidden. (let x = met_hidden hidden in call_stands x.0 x.1))
       (λ shown. (let x = met_shown shown in call_stands x.0 x.1))

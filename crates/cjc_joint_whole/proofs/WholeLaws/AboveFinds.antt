@@ -45,7 +45,7 @@ use Rattle.cjc_joint_theorem.proofs.MembersLaws.Worlds.{files_at, member_at as m
 use Rattle.cjc_joint_theorem.proofs.OrderedLaws.Ordered.{IsJoint, joint_class, ordered, outside_file, own_file}
 use Rattle.cjc_joint_theorem.proofs.OrderedLaws.Standing.{HasStanding, class_stands, same_kind}
 use Rattle.cjc_joint_whole.specs.Told.{IsToldAbove}
-use Rattle.cjc_joint_whole.specs.Whole.{AreWhole, IsExport, IsWrittenFor, from_outside, of_member}
+use Rattle.cjc_joint_whole.specs.Whole.{AreWholeWith, IsExport, IsWrittenFor, from_outside, of_member}
 use Rattle.cjc_joint_whole.proofs.WholeLaws.AboveSights.{single_here}
 use Rattle.cjc_joint_whole.proofs.WholeLaws.AboveStanding.{exposed_seen}
 use Rattle.cjc_joint_whole.proofs.WholeLaws.Coded.{InFile, IsReachedOf, class_there, code_reached, found_there, hit_there}
@@ -81,7 +81,8 @@ same_found e = cc
 
 -- What is selected from a class on, for a method that the joint world has, and for that which a look-up from the class
 -- finds: a method with code of a class above it, or one of a class from outside.
-pub record IsAbove (members : List Member) (is : AreWhole members) (p : Member) (id : MemberId) (super : List ℕ)
+pub record IsAbove {K : _} (members : List Member) (is : AreWholeWith K members) (p : Member) (id : MemberId)
+    (super : List ℕ)
     (met : ResolvedMember) : Type 0 where
   pub callee : Callee
   pub selects : selected_together (files_of members) met super id ≡ Some callee
@@ -92,7 +93,8 @@ pub record IsAbove (members : List Member) (is : AreWhole members) (p : Member) 
   pub below : Below (joint_world (files_of members)) super class
   pub open_name : starts 91 class ≡ false
 
-module _ (members : List Member) (is : AreWhole members) (q : ℕ) (p : Member) (at : slice_get members q ≡ Some p)
+module _ {K : _} (members : List Member) (is : AreWholeWith K members) (q : ℕ) (p : Member)
+    (at : slice_get members q ≡ Some p)
     (id : MemberId) (super : List ℕ) where
   abbrev group : List Files
   group = files_of members
@@ -147,7 +149,8 @@ module _ (members : List Member) (is : AreWhole members) (q : ℕ) (p : Member) 
       ∙ ap select_above l.is_met
       ∙ selects
 
-module _ (members : List Member) (is : AreWhole members) (tell : IsToldAbove members) (q : ℕ) (p : Member)
+module _ {K : _} (members : List Member) (is : AreWholeWith K members) (tell : IsToldAbove members) (q : ℕ)
+    (p : Member)
     (at : slice_get members q ≡ Some p) (id : MemberId) (initial : is_initialiser id.name ≡ false)
     (ordinary : is_constructor id.name ≡ false)
     (plain : is_special (record { name = id.name; desc = id.desc }) ≡ false) (super : List ℕ) (s : Class)

@@ -35,7 +35,7 @@ use Rattle.cjc_joint_theorem.specs.Together.Homes.{joint_world}
 use Rattle.cjc_joint_theorem.proofs.MembersLaws.Worlds.{files_at}
 use Rattle.cjc_joint_theorem.proofs.OrderedLaws.Selected.{found_together, within_moves, within_tells}
 use Rattle.cjc_joint_theorem.proofs.OrderedLaws.Standing.{HasStanding, class_stands}
-use Rattle.cjc_joint_whole.specs.Whole.{AreWhole}
+use Rattle.cjc_joint_whole.specs.Whole.{AreWholeWith}
 use Rattle.cjc_joint_whole.proofs.WholeLaws.AboveFinds.{IsAbove, looked_up}
 use Rattle.cjc_joint_whole.proofs.WholeLaws.AboveLines.{same_or_above}
 use Rattle.cjc_joint_whole.proofs.WholeLaws.AboveSights.{one_named, single_here}
@@ -59,7 +59,8 @@ same_found e = cc
 clash : true ≡ false → ⊥
 clash e = cc
 
-module _ (members : List Member) (is : AreWhole members) (q : ℕ) (p : Member) (at : slice_get members q ≡ Some p)
+module _ {K : _} (members : List Member) (is : AreWholeWith K members) (q : ℕ) (p : Member)
+    (at : slice_get members q ≡ Some p)
     (id : MemberId) (initial : is_initialiser id.name ≡ false)
     (plain : is_special (record { name = id.name; desc = id.desc }) ≡ false) (super : List ℕ) (s : Class)
     (at_super : class_named (all_classes p.files) super ≡ Some s)

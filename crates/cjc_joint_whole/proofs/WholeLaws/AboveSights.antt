@@ -33,7 +33,7 @@ use Rattle.cjc_world.specs.Upwards.{Below, IsOrdered, OnLine}
 use Rattle.cjc_world.proofs.Settled.{supertypes-AreSupertypes}
 use Rattle.cjc_world.proofs.UpwardLaws.Lines.{has_interface_above, line_listed, line_named, same_class}
 use Rattle.cjc_joint_theorem.specs.Members.{Member}
-use Rattle.cjc_joint_whole.specs.Whole.{AreWhole}
+use Rattle.cjc_joint_whole.specs.Whole.{AreWholeWith}
 use Rattle.cjc_joint_whole.proofs.WholeLaws.AboveLines.{either_over, same_or_above}
 use Rattle.cjc_joint_whole.proofs.WholeLaws.Hidden.{in_methods, signed_so}
 use Rattle.cjc_joint_whole.proofs.WholeLaws.Nearest.{low}
@@ -103,7 +103,8 @@ same_member e = cc
 same_place : {i j : ℕ} → Some i ≡ Some j → i ≡ j
 same_place e = cc
 
-module _ (members : List Member) (is : AreWhole members) (q : ℕ) (p : Member) (at : slice_get members q ≡ Some p)
+module _ {K : _} (members : List Member) (is : AreWholeWith K members) (q : ℕ) (p : Member)
+    (at : slice_get members q ≡ Some p)
     (id : MemberId) (plain : is_special (record { name = id.name; desc = id.desc }) ≡ false) where
   abbrev v : List Class
   v = all_classes p.files

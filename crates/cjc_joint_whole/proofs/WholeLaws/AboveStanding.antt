@@ -26,14 +26,14 @@ use Rattle.cjc_joint_theorem.specs.Members.{Member, files_of}
 use Rattle.cjc_joint_theorem.specs.Together.Homes.{joint_world}
 use Rattle.cjc_joint_theorem.proofs.OrderedLaws.Ordered.{ordered}
 use Rattle.cjc_joint_whole.specs.Told.{IsToldAbove}
-use Rattle.cjc_joint_whole.specs.Whole.{AreWhole, IsExport, from_outside, of_member}
+use Rattle.cjc_joint_whole.specs.Whole.{AreWholeWith, IsExport, from_outside, of_member}
 use Rattle.cjc_joint_whole.proofs.WholeLaws.AboveSights.{seen_by}
 use Rattle.cjc_joint_whole.proofs.WholeLaws.Members.{ordered_together}
 use Rattle.cjc_joint_whole.proofs.WholeLaws.Shown.{where_at}
 use Rattle.cjc_joint_whole.proofs.WholeLaws.Standing.{IsMetOpen, numbered_there, outside_open, own_open, shared_open}
 use Rattle.cjc_joint_whole.proofs.WholeLaws.StandingInterfaces.{interface_open}
 
-module _ (members : List Member) (is : AreWhole members) where
+module _ {K : _} (members : List Member) (is : AreWholeWith K members) where
   abbrev group : List Files
   group = files_of members
 

@@ -23,7 +23,7 @@ use Rattle.cjc_joint_theorem.specs.Asked.{group_named}
 use Rattle.cjc_joint_theorem.specs.Members.{Member, files_of, homes_of, images_of, tables_of}
 use Rattle.cjc_joint_theorem.specs.Together.Homes.{group_look_ups, joint_world}
 use Rattle.cjc_joint_theorem.proofs.MembersLaws.Worlds.{files_at}
-use Rattle.cjc_joint_whole.specs.Whole.{AreWhole}
+use Rattle.cjc_joint_whole.specs.Whole.{AreWholeWith}
 use Rattle.cjc_joint_whole.proofs.WholeLaws.Fields.{all_below, named_of}
 use Rattle.cjc_joint_whole.proofs.WholeLaws.Members.{supers_together}
 use Rattle.cjc_joint_whole.proofs.WholeLaws.Reached.{IsReached}
@@ -32,7 +32,8 @@ otherwise : (c x y : Bool) → c ≡ false → (if c then x else y) ≡ true →
 otherwise true x y f e = absurd cc
 otherwise false x y f e = e
 
-module _ (members : List Member) (is : AreWhole members) (q : ℕ) (p : Member) (at : slice_get members q ≡ Some p)
+module _ {K : _} (members : List Member) (is : AreWholeWith K members) (q : ℕ) (p : Member)
+    (at : slice_get members q ≡ Some p)
     (codes : List MethodCode) (m : Method) (t : State) (op : ℕ) (id : MemberId)
     (r : IsReached p.files codes m (jop.Call op id) t) (on_object : receivers op ≡ 1) (class : List ℕ)
     (takes_class : receiver_class (all_classes p.files) r.body op id ≡ class) where

@@ -37,7 +37,7 @@ use Rattle.cjc_joint_theorem.specs.Together.Homes.{joint_world}
 use Rattle.cjc_joint_theorem.proofs.OrderedLaws.Ordered.{IsJoint, interface_there, joint_class, object_abroad}
 use Rattle.cjc_joint_theorem.proofs.OrderedLaws.Ordered.{outside_file, own_file, super_there}
 use Rattle.cjc_joint_whole.specs.Told.{HasOpenEntry, HasOpenMethod, IsDeclaredAbove, IsToldAbove}
-use Rattle.cjc_joint_whole.specs.Whole.{AreWhole, IsExport, IsWrittenFor, from_outside, of_member}
+use Rattle.cjc_joint_whole.specs.Whole.{AreWholeWith, IsExport, IsWrittenFor, from_outside, of_member}
 use Rattle.cjc_joint_whole.proofs.WholeLaws.AboveListed.{above_are_listed}
 use Rattle.cjc_joint_whole.proofs.WholeLaws.Exposed.{named_here, own_here}
 use Rattle.cjc_joint_whole.proofs.WholeLaws.Imports.{exported}
@@ -50,7 +50,7 @@ use Rattle.cjc_joint_whole.proofs.WholeLaws.ToldOutside.{lists_above}
 same_class : {c d : Class} → Some c ≡ Some d → c ≡ d
 same_class e = cc
 
-module _ (members : List Member) (is : AreWhole members) (tell : IsToldAbove members) where
+module _ {K : _} (members : List Member) (is : AreWholeWith K members) (tell : IsToldAbove members) where
   abbrev group : List Files
   group = files_of members
 

@@ -19,12 +19,12 @@ use Rattle.cjc_joint_proof.specs.Worlds.{outside_classes}
 use Rattle.cjc_joint_proof.proofs.AboveLaws.{flat_at}
 use Rattle.cjc_joint_theorem.specs.Members.{Member, files_of}
 use Rattle.cjc_joint_theorem.proofs.OrderedLaws.Ordered.{super_there}
-use Rattle.cjc_joint_whole.specs.Whole.{AreWhole, IsExport, IsWrittenFor, from_outside, of_member}
+use Rattle.cjc_joint_whole.specs.Whole.{AreWholeWith, IsExport, IsWrittenFor, from_outside, of_member}
 use Rattle.cjc_joint_whole.proofs.WholeLaws.Exposed.{own_here}
 use Rattle.cjc_joint_whole.proofs.WholeLaws.Members.{ordered_together}
 use Rattle.cjc_joint_whole.proofs.WholeLaws.Solid.{solid_at}
 
-module _ (members : List Member) (is : AreWhole members) (P : ℕ → Member → List ℕ → Type 0) where
+module _ {K : _} (members : List Member) (is : AreWholeWith K members) (P : ℕ → Member → List ℕ → Type 0) where
   -- a class file, and its superclass
   abbrev pub OfOwn : Type 0
   OfOwn = (q : ℕ) (p : Member) → slice_get members q ≡ Some p → (x : List ℕ) (k : ℕ) (t : ClassTree)

@@ -1,4 +1,4 @@
--- A method of a class file of a package, as the group has it: with code it is begun by the tables of its package.
+-- A method of a class file of a package, as the group has it: what a call of it reaches.
 use Rattle.std.proofs.Common.{◌≡◌, ℕ, ◌+◌, refl, sym, ap, ◌∙◌, Bool, false, List, Some, length, inr}
 use Rattle.std.specs.Prelude.{not, option_map, slice_get}
 use Rattle.cjc_bytes.specs.AccessFlags.{is_abstract, is_static}
@@ -11,20 +11,17 @@ use Rattle.cjc_world.specs.Classes.{Class, Member as WorldMember, declared}
 use Rattle.cjc_world.specs.Files.{Files}
 use Rattle.cjc_world.specs.Lookup.{member_at}
 use Rattle.cjc_world.specs.declared.found.Found.{Found}
-use Rattle.cjc_narrow_proof.specs.Laws.Unbroken.{AreSpelt}
-use Rattle.cjc_narrow_proof.specs.Runs.Tables.{Tables}
 use Rattle.cjc_shape_proof.specs.WorldProof.Calls.Targets.{IsTarget}
 use Rattle.cjc_shape_proof.specs.WorldProof.Calls.Targets as targets
-use Rattle.cjc_shape_proof.proofs.FindsLaws.Begun.{begun, declarer}
 use Rattle.cjc_token_proof.proofs.WorldProofOwn.{hit_is}
 use Rattle.cjc_token_proof.proofs.WorldProofSelects.{reaches}
 use Rattle.cjc_joint_proof.specs.Worlds.{before}
 use Rattle.cjc_joint_proof.proofs.MemberLaws.{method_stays}
 use Rattle.cjc_joint_proof.proofs.WorldLaws.{own_at_number}
-use Rattle.cjc_joint_theorem.specs.Members.{Member, files_of, homes_of, tables_of}
-use Rattle.cjc_joint_theorem.specs.Together.Homes.{Homes, IsBegunIn, joint_world}
-use Rattle.cjc_joint_whole.specs.Whole.{AreWhole}
-use Rattle.cjc_joint_whole.proofs.WholeLaws.Begun.{begun_here}
+use Rattle.cjc_joint_theorem.specs.Members.{Member, files_of}
+use Rattle.cjc_joint_theorem.specs.Together.Homes.{joint_world}
+use Rattle.cjc_joint_whole.specs.ModesCalls.{IsOwnOf}
+use Rattle.cjc_joint_whole.specs.Whole.{AreWholeWith}
 use Rattle.cjc_joint_whole.proofs.WholeLaws.Exposed.{named_here, own_here}
 use Rattle.cjc_joint_whole.proofs.WholeLaws.Solid.{solid_at}
 
@@ -50,19 +47,13 @@ class_there {members = members} x = declared (before (files_of members) x.part +
 abbrev pub found_there : {members : List Member} {id : MemberId} → InFile members id → Found
 found_there x = member_at (class_there x) (length (class_there x).fields + x.place)
 
-module _ (members : List Member) (is : AreWhole members) (id : MemberId) where
+module _ {K : _} (members : List Member) (is : AreWholeWith K members) (id : MemberId) where
   abbrev group : List Files
   group = files_of members
 
-  abbrev homes : Homes
-  homes = homes_of members
-
-  abbrev tables : Tables
-  tables = tables_of members
-
-  -- A method of a package with tables, of a class of this name, or an imported one.
+  -- A method with code of a package, of a class of this name, or an imported one.
   pub data IsReachedOf (on : Bool) (class : List ℕ) : Callee → Type 0 where
-    inside : {m : Method} → IsBegunIn group homes tables on id.desc m → (let n = m.id in n.class) ≡ class
+    inside : {m : Method} → IsOwnOf members id on m → (let n = m.id in n.class) ≡ class
         → IsReachedOf on class (Inside m)
     abroad : {event : MemberId} → event.desc ≡ id.desc → IsReachedOf on class (Abroad event)
 
@@ -81,22 +72,18 @@ module _ (members : List Member) (is : AreWhole members) (id : MemberId) where
     module _ (initial : is_initialiser id.name ≡ false) (on : Bool)
         (static : is_static (let y = x.method in y.flags) ≡ not on)
         (concrete : is_abstract (let y = x.method in y.flags) ≡ false) where
-      spelt : AreSpelt m.files
-      spelt =
-          let one = is.each x.part m x.at in
-          let whole = one.whole in
-          record { package_name = whole.package_name; exports = (let s = whole.sound in s.names) }
-
       reached_of : (callee : Callee) → IsTarget m.files id (λ t k. (is_static k.flags
           ≡ is_static (let y = x.method in y.flags)) × (t.name ≡ d.name)) callee
           → IsReachedOf on (let t = x.class in t.name) callee
       reached_of _ (targets.inside {m = n} code holds) =
-          let one = is.each x.part m x.at in
-          let whole = one.whole in
-          inside (begun_here members is x.part m x.at on id.desc n (begun one.list m.files one.codes one.settings
-          whole.unbroken spelt m.tables whole.tabled on id initial n code (holds.0 ∙ static)))
-          (declarer one.list m.files one.codes one.settings whole.unbroken spelt m.tables whole.tabled id n code
-          ∙ holds.1)
+          let own : IsOwnOf members id on n = record {
+            part = x.part;
+            member = x.member;
+            at = x.at;
+            code = code;
+            flags = holds.0 ∙ static;
+          } in
+          inside own (ap (λ (g : Method). let i = g.id in i.class) code.is ∙ holds.1)
       reached_of _ (targets.abroad e) = abroad e
 
       -- what a call of it reaches

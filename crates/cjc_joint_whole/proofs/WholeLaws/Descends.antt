@@ -17,7 +17,7 @@ use Rattle.cjc_joint_theorem.specs.Members.{Member, files_of}
 use Rattle.cjc_joint_theorem.specs.Together.Homes.{joint_world}
 use Rattle.cjc_joint_theorem.proofs.MembersLaws.Worlds.{member_at}
 use Rattle.cjc_joint_theorem.proofs.OrderedLaws.Ordered.{ordered}
-use Rattle.cjc_joint_whole.specs.Whole.{AreWhole}
+use Rattle.cjc_joint_whole.specs.Whole.{AreWholeWith}
 use Rattle.cjc_joint_whole.proofs.WholeLaws.Begun.{place_here}
 use Rattle.cjc_joint_whole.proofs.WholeLaws.Climbing.{climbing}
 use Rattle.cjc_joint_whole.proofs.WholeLaws.Exposed.{named_here, own_here}
@@ -25,7 +25,7 @@ use Rattle.cjc_joint_whole.proofs.WholeLaws.Imports.{exported}
 use Rattle.cjc_joint_whole.proofs.WholeLaws.Members.{ordered_together}
 use Rattle.cjc_joint_whole.proofs.WholeLaws.Nearest.{only}
 
-module _ (members : List Member) (is : AreWhole members) where
+module _ {K : _} (members : List Member) (is : AreWholeWith K members) where
   abbrev group : List Files
   group = files_of members
 

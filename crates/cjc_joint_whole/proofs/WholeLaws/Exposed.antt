@@ -22,7 +22,7 @@ use Rattle.cjc_joint_theorem.specs.Members.{Member, files_of}
 use Rattle.cjc_joint_theorem.specs.Together.Homes.{joint_world}
 use Rattle.cjc_joint_theorem.proofs.MembersLaws.Worlds.{files_at}
 use Rattle.cjc_joint_theorem.proofs.OrderedLaws.Selected.{exposed_together}
-use Rattle.cjc_joint_whole.specs.Whole.{AreWhole}
+use Rattle.cjc_joint_whole.specs.Whole.{AreWholeWith}
 use Rattle.cjc_joint_whole.proofs.WholeLaws.Members.{ordered_together}
 use Rattle.cjc_joint_whole.proofs.WholeLaws.Solid.{solid_at}
 
@@ -35,7 +35,8 @@ stands_once ms i m name desc is_name is_desc once =
     ap (λ y. is_earlier (position (λ (q : WorldMember). is_called y desc q) ms) i) (sym is_name)
     ∙ ap (λ y. is_earlier (position (λ (q : WorldMember). is_called m.name y q) ms) i) (sym is_desc) ∙ once
 
-module _ (members : List Member) (is : AreWhole members) (j : ℕ) (m : Member) (at : slice_get members j ≡ Some m)
+module _ {K : _} (members : List Member) (is : AreWholeWith K members) (j : ℕ) (m : Member)
+    (at : slice_get members j ≡ Some m)
     (k : ℕ) (t : ClassTree) (file : (let f = m.files in slice_get f.classes k ≡ Some t)) where
   abbrev group : List Files
   group = files_of members

@@ -41,7 +41,7 @@ use Rattle.cjc_joint_theorem.specs.Together.Homes.{Home, files_for, group_look_u
 use Rattle.cjc_joint_theorem.specs.Together.Names.{IsFieldIn}
 use Rattle.cjc_joint_theorem.proofs.MembersLaws.Worlds.{files_at}
 use Rattle.cjc_joint_theorem.proofs.OrderedLaws.Fields.{no_array, not_abroad, objects_have}
-use Rattle.cjc_joint_whole.specs.Whole.{AreWhole}
+use Rattle.cjc_joint_whole.specs.Whole.{AreWholeWith}
 use Rattle.cjc_joint_whole.proofs.WholeLaws.Imports.{imports_told}
 use Rattle.cjc_joint_whole.proofs.WholeLaws.Known.{IsKnown}
 use Rattle.cjc_joint_whole.proofs.WholeLaws.Members.{ordered_together, plain_together, supers_together}
@@ -90,7 +90,8 @@ module _ (w : List Class) (l : Named) (subtypes : (a b : Shape (List ℕ)) → l
 
 -- ---- of a method of a package
 
-module _ (members : List Member) (is : AreWhole members) (p : Member) (m : Method) (at : member_of members m ≡ Some p)
+module _ {K : _} (members : List Member) (is : AreWholeWith K members) (p : Member) (m : Method)
+    (at : member_of members m ≡ Some p)
   where
     abbrev group : List Files
     group = files_of members

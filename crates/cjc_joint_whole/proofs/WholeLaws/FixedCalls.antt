@@ -1,5 +1,5 @@
 -- Static methods, constructors and private methods that code calls: the joint world has each, and the call reaches the
--- same there, a method that is begun by the tables of its package, or the event of one from outside.
+-- same there, a method with code of its package, or the event of one from outside.
 use Rattle.std.proofs.Common.{◌≡◌, ℕ, refl, sym, ap, subst, ◌∙◌, Bool, true, false, List, Some, inl, inr}
 use Rattle.std.proofs.Common.{⊎_elim}
 use Rattle.std.specs.Prelude.{◌⊎◌, ◌&&◌, ◌||◌, not, option_map, slice_get, if◌then◌else◌}
@@ -7,7 +7,7 @@ use Rattle.cjc_bytes.specs.AccessFlags.{is_abstract, is_private, is_static}
 use Rattle.cjc_bytes.specs.declared.fault.MemberId.{MemberId}
 use Rattle.cjc_components.specs.Bytecode.declared.insn.JOp.TheVariants as jop
 use Rattle.cjc_components.specs.Bytecode.declared.method_code.MethodCode.{MethodCode}
-use Rattle.cjc_jvm_semantics.specs.Group.{joint, joint_image, joint_method}
+use Rattle.cjc_jvm_semantics.specs.Group.{joint, joint_method}
 use Rattle.cjc_jvm_semantics.specs.Linked.{Abroad, Callee, Inside, Method}
 use Rattle.cjc_jvm_semantics.specs.OnePackage.{ResolvedMember, callee_at, is_constructor, is_initialiser, method_at}
 use Rattle.cjc_jvm_semantics.specs.OnePackage.{method_hit, of_class}
@@ -16,45 +16,39 @@ use Rattle.cjc_world.specs.Files.{Files}
 use Rattle.cjc_world.specs.Subtype.{is_subtype}
 use Rattle.cjc_world.specs.declared.found.Found.{Found}
 use Rattle.cjc_world.proofs.Subtypes.{transitive}
-use Rattle.cjc_narrow_proof.specs.NCode.ByLabel.{Named}
 use Rattle.cjc_narrow_proof.specs.Runs.Calls as alone
-use Rattle.cjc_narrow_proof.specs.Runs.Tables.{Tables}
 use Rattle.cjc_narrow_proof.specs.Script.Sorts.{shape_name}
 use Rattle.cjc_token_proof.proofs.WorldProofSpecials.{bound_whole}
 use Rattle.cjc_token_proof.specs.Types.declared.cell.Cell.{Cell}
 use Rattle.cjc_token_proof.specs.Types.declared.state.State.{State}
 use Rattle.cjc_token_proof.specs.Types.Rules.{names_private, receiver_class}
 use Rattle.cjc_token_proof.specs.Types.Search.{cells_of}
-use Rattle.cjc_joint_theorem.specs.Members.{Member, files_of, homes_of, images_of, tables_of}
-use Rattle.cjc_joint_theorem.specs.Together.Calls.{IsCalleeIn, IsChoiceIn, IsChosenIn, IsReachedIn, IsReceiverIn}
-use Rattle.cjc_joint_theorem.specs.Together.Calls.{IsStaticIn}
+use Rattle.cjc_joint_theorem.specs.Members.{Member, files_of, homes_of, tables_of}
 use Rattle.cjc_joint_theorem.specs.Together.Calls as together
-use Rattle.cjc_joint_theorem.specs.Together.Homes.{Homes, group_look_ups, joint_world}
-use Rattle.cjc_joint_theorem.proofs.MembersLaws.Worlds.{files_at, type_there}
-use Rattle.cjc_joint_whole.specs.Whole.{AreWhole}
+use Rattle.cjc_joint_theorem.specs.Together.Homes.{joint_world}
+use Rattle.cjc_joint_theorem.proofs.MembersLaws.Worlds.{files_at}
+use Rattle.cjc_joint_whole.specs.ModesCalls.{IsChosenIn, IsNamedCallee, IsReachedIn, IsReceiverIn, IsStandingCallee}
+use Rattle.cjc_joint_whole.specs.ModesCalls.{IsStaticIn, chooses_import, chooses_method, named_callee, reaches_import}
+use Rattle.cjc_joint_whole.specs.ModesCalls.{reaches_method}
+use Rattle.cjc_joint_whole.specs.Whole.{AreWhole, AreWholeWith}
 use Rattle.cjc_joint_whole.proofs.WholeLaws.Accepted.{receiver_is}
+use Rattle.cjc_joint_whole.proofs.WholeLaws.Begun.{static_of}
 use Rattle.cjc_joint_whole.proofs.WholeLaws.Coded.{IsReachedOf, class_there, code_reached, found_there, hit_there}
 use Rattle.cjc_joint_whole.proofs.WholeLaws.Coded as coded
 use Rattle.cjc_joint_whole.proofs.WholeLaws.Exposed.{named_here}
-use Rattle.cjc_joint_whole.proofs.WholeLaws.Members.{are_members, supers_together}
+use Rattle.cjc_joint_whole.proofs.WholeLaws.Members.{supers_together, type_together}
 use Rattle.cjc_joint_whole.proofs.WholeLaws.Owners.{HasOwner, IsFixed, IsMet, MetInFile, MetOutside, in_file, met_of}
 use Rattle.cjc_joint_whole.proofs.WholeLaws.Owners.{outside, owner_of}
 use Rattle.cjc_joint_whole.proofs.WholeLaws.Reached.{IsReached}
 use Rattle.cjc_joint_whole.proofs.WholeLaws.Solid.{solid_at}
 use Rattle.cjc_joint_whole.proofs.WholeLaws.Specials.{private_is}
 
-module _ (members : List Member) (is : AreWhole members) where
+module _ {K : _} (members : List Member) (is : AreWholeWith K members) where
   abbrev group : List Files
   group = files_of members
 
   abbrev w : List Class
   w = joint_world group
-
-  abbrev homes : Homes
-  homes = homes_of members
-
-  abbrev tables : Tables
-  tables = tables_of members
 
   module _ (id : MemberId) (initial : is_initialiser id.name ≡ false) (hit : ResolvedMember) where
     -- What the joint world has for the method, and what a call of it reaches there.
@@ -120,7 +114,7 @@ module _ (members : List Member) (is : AreWhole members) where
 
   -- ---- of a call of a package
 
-  module _ (q : ℕ) (p : Member) (at : slice_get members q ≡ Some p) (id : MemberId) (c : alone.IsCallee p.files id)
+  module _ (q : ℕ) (p : Member) (at : slice_get members q ≡ Some p) (id : MemberId) (c : IsNamedCallee p.files id)
     where
       abbrev v : List Class
       v = all_classes p.files
@@ -140,7 +134,7 @@ module _ (members : List Member) (is : AreWhole members) where
       above_together = supers_together members is q p.files (files_at members q p at) id.class (let o = hit.owner in
           o.name) c.above
 
-      abbrev pub callee_in : {on : Bool} → StandsIn id c.no_initialiser c.hit on → IsCalleeIn group p.files id
+      abbrev pub callee_in : {on : Bool} → StandsIn id c.no_initialiser c.hit on → IsStandingCallee group p.files id
       callee_in s = record {
         place = c.place;
         hit = c.hit;
@@ -153,36 +147,34 @@ module _ (members : List Member) (is : AreWhole members) where
         is_met = s.is_met;
         is_above = above_together;
         no_initialiser = c.no_initialiser;
-        desc = c.desc;
-        result = λ kind e. type_there members (are_members members is) q p.files (files_at members q p at) kind
-            (c.result kind e);
+        result = λ kind e. type_together members is q p.files (files_at members q p at) kind (c.result kind e);
       }
 
   -- ---- static calls
 
-  pub static_stands : (q : ℕ) (p : Member) → slice_get members q ≡ Some p → (id : MemberId)
-      → alone.IsStaticOn p.files p.tables id → IsStaticIn group homes tables p.files id
-  static_stands q p at id h =
-      let c = h.method in
-      let s = it_stands q p at id c false h.is_static_one (inl h.is_static_one) in
+  pub static_reached : (q : ℕ) (p : Member) → slice_get members q ≡ Some p → (id : MemberId)
+      (c : IsNamedCallee p.files id) → (let hit = c.hit in is_static hit.flags) ≡ true → is_constructor id.name ≡ false
+      → IsStaticIn members id p.files
+  static_reached q p at id c static no_constructor =
+      let s = it_stands q p at id c false static (inl static) in
       record {
         method = callee_in q p at id c s;
-        is_static_one = ap is_static s.has_flags ∙ h.is_static_one;
-        no_constructor = h.no_constructor;
+        is_static_one = ap is_static s.has_flags ∙ static;
+        no_constructor = no_constructor;
         callee = s.callee;
         reaches = s.reaches;
-        is_reached = reached c s.callee s.is_reached;
+        is_reached = reached s.callee s.is_reached;
       }
     where
-      reached : (c : alone.IsCallee p.files id) (callee : Callee) → IsReachedOf members is id false
-          (let h = c.hit in let o = h.owner in o.name) callee → IsReachedIn group homes tables id callee
-      reached c _ (coded.inside b same) = together.inside b
-      reached c _ (coded.abroad e) = together.abroad e
+      reached : (callee : Callee) → IsReachedOf members is id false (let h = c.hit in let o = h.owner in o.name) callee
+          → IsReachedIn members id callee
+      reached _ (coded.inside own same) = reaches_method own
+      reached _ (coded.abroad e) = reaches_import e
 
   -- ---- constructors and private methods
 
   module _ (q : ℕ) (p : Member) (at : slice_get members q ≡ Some p) (codes : List MethodCode) (m : Method) (t : State)
-      (id : MemberId) (r : IsReached p.files codes m (jop.Call 0xB7 id) t) (c : alone.IsCallee p.files id)
+      (id : MemberId) (r : IsReached p.files codes m (jop.Call 0xB7 id) t) (c : IsNamedCallee p.files id)
       (ground : (let meant = c.hit in is_static meant.flags) ≡ false)
       (special : (let meant = c.hit in is_constructor id.name || is_private meant.flags) ≡ true) where
     abbrev own_world : List Class
@@ -190,9 +182,6 @@ module _ (members : List Member) (is : AreWhole members) where
 
     abbrev meant : ResolvedMember
     meant = c.hit
-
-    abbrev l : Named
-    l = group_look_ups group (joint_image (images_of members)) homes tables
 
     abbrev stack : List Cell
     stack = cells_of t.stack
@@ -226,12 +215,12 @@ module _ (members : List Member) (is : AreWhole members) where
 
     chosen : (type : List ℕ) → is_subtype w type id.class ≡ true → (callee : Callee)
         → IsReachedOf members is id true (let h = c.hit in let o = h.owner in o.name) callee
-        → IsChosenIn group homes tables id type callee
-    chosen type below _ (coded.inside b same) = together.inside b (subst (λ y. is_subtype w type y ≡ true) (sym same)
+        → IsChosenIn members id type callee
+    chosen type below _ (coded.inside own same) = chooses_method own (subst (λ y. is_subtype w type y ≡ true) (sym same)
         (transitive w type id.class (let o = meant.owner in o.name) below (above_together q p at id c)))
-    chosen type below _ (coded.abroad e) = together.abroad e
+    chosen type below _ (coded.abroad e) = chooses_import e
 
-    pub itself_stands : (holder : List ℕ) → IsReceiverIn group l homes tables p.files holder stack 0xB7 id
+    pub itself_stands : (holder : List ℕ) → IsReceiverIn members id p.files holder stack 0xB7
     itself_stands holder = record {
       method = callee_in q p at id c s;
       class = id.class;
@@ -246,3 +235,14 @@ module _ (members : List Member) (is : AreWhole members) where
             is_chosen = chosen (shape_name kind) below s.callee s.is_reached;
           });
     }
+
+-- ---- where no method works on int
+
+module _ (members : List Member) (is : AreWhole members) where
+  pub static_stands : (q : ℕ) (p : Member) → slice_get members q ≡ Some p → (id : MemberId)
+      → alone.IsStaticOn p.files p.tables id
+      → together.IsStaticIn (files_of members) (homes_of members) (tables_of members) p.files id
+  static_stands q p at id h =
+      let c = h.method in
+      static_of members is id c.desc p.files (static_reached members is q p at id (named_callee c) h.is_static_one
+      h.no_constructor)

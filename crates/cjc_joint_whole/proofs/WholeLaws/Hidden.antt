@@ -42,7 +42,7 @@ use Rattle.cjc_joint_theorem.proofs.OrderedLaws.Ordered.{super_there}
 use Rattle.cjc_joint_theorem.proofs.OrderedLaws.Selected.{found_together, within_moves, within_tells}
 use Rattle.cjc_joint_theorem.proofs.OrderedLaws.Standing.{HasStanding, Stands, class_stands, from_outside, of_member}
 use Rattle.cjc_joint_theorem.proofs.OrderedLaws.Standing.{own_class}
-use Rattle.cjc_joint_whole.specs.Whole.{AreWhole}
+use Rattle.cjc_joint_whole.specs.Whole.{AreWholeWith}
 use Rattle.cjc_joint_whole.proofs.WholeLaws.Coded.{InFile, class_there, found_there, hit_there}
 use Rattle.cjc_joint_whole.proofs.WholeLaws.Descends.{descends}
 use Rattle.cjc_joint_whole.proofs.WholeLaws.Exposed.{named_here, own_here}
@@ -109,7 +109,7 @@ pub record IsUnseen (members : List Member) (home : List ℕ) (id : MemberId) (x
   pub selectable : is_selectable (let q = it in let m = q.method in m.flags) ≡ true
   pub concrete : is_abstract (let q = it in let m = q.method in m.flags) ≡ false
 
-module _ (members : List Member) (is : AreWhole members) where
+module _ {K : _} (members : List Member) (is : AreWholeWith K members) where
   abbrev group : List Files
   group = files_of members
 

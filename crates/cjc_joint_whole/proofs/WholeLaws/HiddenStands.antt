@@ -12,7 +12,7 @@ use Rattle.cjc_components.specs.Class.{is_shareable}
 use Rattle.cjc_components.specs.ExportFile.{export_class}
 use Rattle.cjc_components.specs.Exports.{exported_classes}
 use Rattle.cjc_components.specs.Package.{world}
-use Rattle.cjc_jvm_semantics.specs.Group.{is_exposed, is_open, is_package_visible, joint, joint_exports, joint_image}
+use Rattle.cjc_jvm_semantics.specs.Group.{is_exposed, is_open, is_package_visible, joint, joint_exports}
 use Rattle.cjc_jvm_semantics.specs.Group.{own_where, own_within, package_of, selection_for}
 use Rattle.cjc_jvm_semantics.specs.Linked.{Callee, Method}
 use Rattle.cjc_jvm_semantics.specs.OnePackage.{ResolvedMember, callee_at, first_imported, is_constructor}
@@ -32,8 +32,6 @@ use Rattle.cjc_world.specs.Supertypes.{line}
 use Rattle.cjc_world.specs.Upwards.{Below}
 use Rattle.cjc_world.proofs.Subtypes.{transitive}
 use Rattle.cjc_world.proofs.UpwardLaws.Lines.{line_below, line_named, on_line}
-use Rattle.cjc_narrow_proof.specs.NCode.ByLabel.{Named}
-use Rattle.cjc_narrow_proof.specs.Runs.Calls as alone
 use Rattle.cjc_narrow_proof.specs.Script.Sorts.{shape_name}
 use Rattle.cjc_shape_proof.specs.WorldProof.Calls.Targets.{IsReceiver}
 use Rattle.cjc_shape_proof.proofs.WritingLaws.Flags.{interface_kept}
@@ -49,19 +47,20 @@ use Rattle.cjc_joint_proof.proofs.AboveLaws.{flat_at}
 use Rattle.cjc_joint_proof.proofs.PackageNames.{package_is}
 use Rattle.cjc_joint_proof.proofs.SoundLaws.{apart}
 use Rattle.cjc_joint_proof.proofs.WorldLaws.{own_is_found}
-use Rattle.cjc_joint_theorem.specs.Members.{Member, files_of, homes_of, images_of, tables_of}
-use Rattle.cjc_joint_theorem.specs.Together.Calls.{IsChosenIn, IsReceiverIn, selected_together}
+use Rattle.cjc_joint_theorem.specs.Members.{Member, files_of}
+use Rattle.cjc_joint_theorem.specs.Together.Calls.{selected_together}
 use Rattle.cjc_joint_theorem.specs.Together.Calls as together
-use Rattle.cjc_joint_theorem.specs.Together.Homes.{group_look_ups, joint_world}
-use Rattle.cjc_joint_theorem.proofs.MembersLaws.Worlds.{files_at, type_there}
+use Rattle.cjc_joint_theorem.specs.Together.Homes.{joint_world}
+use Rattle.cjc_joint_theorem.proofs.MembersLaws.Worlds.{files_at}
 use Rattle.cjc_joint_theorem.proofs.OrderedLaws.Ordered.{ordered}
-use Rattle.cjc_joint_whole.specs.Whole.{AreWhole, IsExport, from_outside, of_member}
+use Rattle.cjc_joint_whole.specs.ModesCalls.{IsChosenIn, IsNamedCallee, IsReceiverIn, chooses_import, chooses_method}
+use Rattle.cjc_joint_whole.specs.Whole.{AreWholeWith, IsExport, from_outside, of_member}
 use Rattle.cjc_joint_whole.proofs.WholeLaws.Accepted.{receiver_is}
 use Rattle.cjc_joint_whole.proofs.WholeLaws.Coded.{IsReachedOf, class_there, code_reached, found_there, hit_there}
 use Rattle.cjc_joint_whole.proofs.WholeLaws.Coded as coded
 use Rattle.cjc_joint_whole.proofs.WholeLaws.Exposed.{own_here}
 use Rattle.cjc_joint_whole.proofs.WholeLaws.Hidden.{hidden_selected}
-use Rattle.cjc_joint_whole.proofs.WholeLaws.Members.{are_members, ordered_together, plain_together, supers_together}
+use Rattle.cjc_joint_whole.proofs.WholeLaws.Members.{ordered_together, plain_together, supers_together, type_together}
 use Rattle.cjc_joint_whole.proofs.WholeLaws.Owners.{MetInFile, own_met, owner_of}
 use Rattle.cjc_joint_whole.proofs.WholeLaws.Reached.{IsReached}
 use Rattle.cjc_joint_whole.proofs.WholeLaws.Receivers.{receiver_in}
@@ -90,7 +89,7 @@ seen_by flags e = by (is_exposed flags) (is_private flags) e
     by true p e = refl
     by false p e = absurd cc
 
-module _ (members : List Member) (is : AreWhole members) where
+module _ {K : _} (members : List Member) (is : AreWholeWith K members) where
   abbrev group : List Files
   group = files_of members
 
@@ -135,7 +134,7 @@ module _ (members : List Member) (is : AreWhole members) where
   -- ---- the call
 
   module _ (q : ℕ) (p : Member) (at : slice_get members q ≡ Some p) (codes : List MethodCode) (m : Method) (t : State)
-      (id : MemberId) (r : IsReached p.files codes m (jop.Call 0xB6 id) t) (c : alone.IsCallee p.files id)
+      (id : MemberId) (r : IsReached p.files codes m (jop.Call 0xB6 id) t) (c : IsNamedCallee p.files id)
       (ordinary : is_constructor id.name ≡ false) (wanted : (let hit = c.hit in is_selectable hit.flags) ≡ true)
       (hidden : (let hit = c.hit in is_package_visible hit.flags) ≡ true) where
     abbrev v : List Class
@@ -144,9 +143,6 @@ module _ (members : List Member) (is : AreWhole members) where
     abbrev hit : ResolvedMember
     hit = c.hit
 
-    abbrev l : Named
-    l = group_look_ups group (joint_image (images_of members)) (homes_of members) (tables_of members)
-
     abbrev stack : List Cell
     stack = cells_of t.stack
 
@@ -154,17 +150,16 @@ module _ (members : List Member) (is : AreWhole members) where
     plain = special_off (is_constructor id.name) (is_initialiser id.name) ordinary c.no_initialiser
 
     chosen : (type : List ℕ) (callee : Callee) (y : List ℕ) → IsReachedOf members is id true y callee
-        → Below w (receiver type) y → starts 91 y ≡ false → IsChosenIn group (homes_of members) (tables_of members) id
-        type callee
-    chosen type _ y (coded.inside b same) way name = together.inside b (subst (λ z. is_subtype w type z ≡ true) (sym same)
+        → Below w (receiver type) y → starts 91 y ≡ false → IsChosenIn members id type callee
+    chosen type _ y (coded.inside own same) way name = chooses_method own (subst (λ z. is_subtype w type z ≡ true) (sym same)
         (below_type w type y name way))
-    chosen type _ y (coded.abroad e) way name = together.abroad e
+    chosen type _ y (coded.abroad e) way name = chooses_import e
 
     -- of a class of the package
     of_class : (holder : List ℕ) (n : ℕ) (o : ClassTree) → (let f = p.files in slice_get f.classes n ≡ Some o)
         → own_method false id.name id.desc (declared n o) ≡ Some c.place → (a : IsAt false id.name id.desc (declared n o)
         c.place) → hit ≡ record { owner = declared n o; flags = (let x = a.member in x.flags) } → is_interface o.flags
-        ≡ false → IsReceiverIn group l (homes_of members) (tables_of members) p.files holder stack 0xB6 id
+        ≡ false → IsReceiverIn members id p.files holder stack 0xB6
     of_class holder n o file own a told ground = record {
       method = record {
         place = c.place;
@@ -178,9 +173,7 @@ module _ (members : List Member) (is : AreWhole members) where
         is_met = hit_there members is id x.it;
         is_above = above;
         no_initialiser = c.no_initialiser;
-        desc = c.desc;
-        result = λ kind e. type_there members (are_members members is) q p.files (files_at members q p at) kind
-            (c.result kind e);
+        result = λ kind e. type_together members is q p.files (files_at members q p at) kind (c.result kind e);
       };
       class = id.class;
       choice = λ type. selected_together group met type id;
@@ -224,8 +217,7 @@ module _ (members : List Member) (is : AreWhole members) where
             (own_here members is q p at n o file))
 
         selected : (type : List ℕ) → is_subtype w type id.class ≡ true → IsReceiver w (receiver type) → (callee : Callee)
-            × (selected_together group met type id ≡ Some callee)
-            × IsChosenIn group (homes_of members) (tables_of members) id type callee
+            × (selected_together group met type id ≡ Some callee) × IsChosenIn members id type callee
         selected type of receiver_there =
             let y = receiver type in
             let order = ordered group (ordered_together members is) in
@@ -252,8 +244,7 @@ module _ (members : List Member) (is : AreWhole members) where
                   (line_named w y (class_there u.it) u.on)),
             )
 
-    pub hidden_stands : (holder : List ℕ) → IsReceiverIn group l (homes_of members) (tables_of members) p.files holder
-        stack 0xB6 id
+    pub hidden_stands : (holder : List ℕ) → IsReceiverIn members id p.files holder stack 0xB6
     hidden_stands holder =
         let o = owner_of p.files (solid_at members is q p at) id c.place c.hit c.found c.is_hit in
         by (filed p.files (let d = o.class in d.name) o.class o.named) o.named o.own o.at o.is_hit
@@ -283,7 +274,7 @@ module _ (members : List Member) (is : AreWhole members) where
         by : {d : Class} → IsFiled p.files d → class_named v d.name ≡ Some d
             → own_method false id.name id.desc d ≡ Some c.place → (a : IsAt false id.name id.desc d c.place)
             → hit ≡ record { owner = d; flags = (let x = a.member in x.flags) }
-            → IsReceiverIn group l (homes_of members) (tables_of members) p.files holder stack 0xB6 id
+            → IsReceiverIn members id p.files holder stack 0xB6
         by (in_class_file n o file) named own a told =
             ⊎_elim (λ it. absurd (of_interface (declared n o) named it a told))
             (λ ground. of_class holder n o file own a told ground) (true_or_false (is_interface o.flags))

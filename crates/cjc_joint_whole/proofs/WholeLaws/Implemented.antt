@@ -46,7 +46,7 @@ use Rattle.cjc_joint_theorem.specs.Together.Homes.{joint_world}
 use Rattle.cjc_joint_theorem.proofs.MembersLaws.Worlds.{member_at as member_of_files}
 use Rattle.cjc_joint_theorem.proofs.OrderedLaws.Ordered.{IsJoint, joint_class, ordered, outside_file, own_file}
 use Rattle.cjc_joint_whole.specs.Told.{IsDeclaredAbove, IsToldAbove}
-use Rattle.cjc_joint_whole.specs.Whole.{AreWhole}
+use Rattle.cjc_joint_whole.specs.Whole.{AreWholeWith}
 use Rattle.cjc_joint_whole.proofs.WholeLaws.Asked.{seen_above}
 use Rattle.cjc_joint_whole.proofs.WholeLaws.Exposed.{named_here, own_here}
 use Rattle.cjc_joint_whole.proofs.WholeLaws.HiddenStands.{shown_entry}
@@ -104,7 +104,7 @@ same_hit e = cc
 same_class : {c d : Class} → Some c ≡ Some d → c ≡ d
 same_class e = cc
 
-module _ (members : List Member) (is : AreWhole members) (tell : IsToldAbove members) where
+module _ {K : _} (members : List Member) (is : AreWholeWith K members) (tell : IsToldAbove members) where
   abbrev group : List Files
   group = files_of members
 

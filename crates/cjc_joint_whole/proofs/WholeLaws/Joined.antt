@@ -1,7 +1,7 @@
 -- The fields and objects that reached instructions of packages name, and static methods, constructors and private
 -- methods, stand for what the joint world has.
 use Rattle.std.proofs.Common.{◌≡◌, ℕ, arith, Bool, true, false, List, Option, Some, refl, sym, ap, subst, ◌∙◌, inl, inr}
-use Rattle.std.specs.Prelude.{◌⊎◌}
+use Rattle.std.specs.Prelude.{◌⊎◌, slice_get}
 use Rattle.cjc_bytes.specs.AccessFlags.{is_interface}
 use Rattle.cjc_bytes.specs.declared.fault.MemberId.{MemberId}
 use Rattle.cjc_components.specs.Bytecode.declared.insn.JOp.{JOp}
@@ -21,7 +21,8 @@ use Rattle.cjc_narrow_proof.specs.Runs.Names as alone
 use Rattle.cjc_narrow_proof.specs.Runs.Names.{IsFieldOf, IsNamed}
 use Rattle.cjc_narrow_proof.specs.Runs.Tables.{look_ups}
 use Rattle.cjc_narrow_proof.specs.Selection.Rows.{HasField}
-use Rattle.cjc_narrow_proof.proofs.LawsLaws.Instructions.{kept_names, op_fit}
+use Rattle.cjc_narrow_proof.specs.Tables.Calls.{IsWordDesc}
+use Rattle.cjc_narrow_proof.proofs.LawsLaws.Instructions.{op_fit}
 use Rattle.cjc_token_proof.specs.Subset.Checks.{is_imported_variable, names_variable}
 use Rattle.cjc_token_proof.specs.Types.declared.cell.Cell.{Cell}
 use Rattle.cjc_token_proof.specs.Types.declared.state.State.{State}
@@ -30,21 +31,47 @@ use Rattle.cjc_token_proof.specs.Types.Search.{cells_of}
 use Rattle.cjc_token_proof.specs.Types.Steps.{operand}
 use Rattle.cjc_joint_theorem.specs.Members.{IsLeft, Member, StandTogether, files_of, homes_of, images_of, member_of}
 use Rattle.cjc_joint_theorem.specs.Members.{number_of, tables_of}
-use Rattle.cjc_joint_theorem.specs.Together.Calls.{IsReceiverIn, IsStaticIn}
+use Rattle.cjc_joint_theorem.specs.Together.Calls.{IsStaticIn}
+use Rattle.cjc_joint_theorem.specs.Together.Calls as together
 use Rattle.cjc_joint_theorem.specs.Together.Homes.{group_look_ups, joint_world}
 use Rattle.cjc_joint_theorem.specs.Together.Names.{IsInstanceIn, IsNamedIn}
 use Rattle.cjc_joint_theorem.specs.Together.Names as names
-use Rattle.cjc_joint_whole.specs.Whole.{AreWhole, IsLeftVirtual, IsOfMember, IsSelecting}
+use Rattle.cjc_joint_whole.specs.ModesCalls.{IsReceiverIn, named_callee}
+use Rattle.cjc_joint_whole.specs.Whole.{AreWhole, AreWholeWith, IsLeftVirtual, IsOfMember, IsSelecting}
 use Rattle.cjc_joint_whole.specs.Whole.{IsSelectingCall, SelectionsStand}
+use Rattle.cjc_joint_whole.proofs.WholeLaws.Begun.{receiver_of}
 use Rattle.cjc_joint_whole.proofs.WholeLaws.Fields.{files_are, has_field, same_field}
 use Rattle.cjc_joint_whole.proofs.WholeLaws.FixedCalls.{itself_stands, static_stands}
 use Rattle.cjc_joint_whole.proofs.WholeLaws.HiddenStands.{hidden_stands}
 use Rattle.cjc_joint_whole.proofs.WholeLaws.Known.{known}
 use Rattle.cjc_joint_whole.proofs.WholeLaws.Objects.{fields_have_values, is_made_in}
 use Rattle.cjc_joint_whole.proofs.WholeLaws.OpenCalls.{shared_or_not}
-use Rattle.cjc_joint_whole.proofs.WholeLaws.Reached.{IsReached, reached}
+use Rattle.cjc_joint_whole.proofs.WholeLaws.Members.{reached_at}
+use Rattle.cjc_joint_whole.proofs.WholeLaws.Reached.{IsReached}
 use Rattle.cjc_joint_whole.proofs.WholeLaws.Solid.{solid_at}
 use Rattle.cjc_joint_whole.proofs.WholeLaws.Statics.{cell_stays}
+
+module _ {K : _} (members : List Member) (is : AreWholeWith K members) (q : ℕ) (p : Member)
+    (at : slice_get members q ≡ Some p) where
+  -- 310
+  variable_off : (class : ClassTree) (op : JOp) → IsInsnOf p.files (let one = is.each q p at in one.codes) class op
+      → names_variable p.files op ≡ false
+  variable_off class op insn =
+      let one = is.each q p at in
+      let whole = one.whole in
+      (op_fit one.list p.files one.codes one.settings whole.unbroken class op insn).1
+
+  pub static_off : (class : ClassTree) (put : Bool) (id : MemberId) → IsInsnOf p.files (let one = is.each q p at in
+      one.codes) class (jop.Static put id)
+      → is_imported_variable p.files (find_field (all_classes p.files) id.class id.name id.desc) ≡ false
+  unfolding names_variable
+  static_off class put id insn = variable_off class (jop.Static put id) insn
+
+  pub field_off : (class : ClassTree) (put : Bool) (id : MemberId) → IsInsnOf p.files (let one = is.each q p at in
+      one.codes) class (jop.Field put id)
+      → is_imported_variable p.files (find_field (all_classes p.files) id.class id.name id.desc) ≡ false
+  unfolding names_variable
+  field_off class put id insn = variable_off class (jop.Field put id) insn
 
 module _ (members : List Member) (is : AreWhole members) (p : Member) (m : Method) (at : member_of members m ≡ Some p)
     (t : State) where
@@ -69,33 +96,14 @@ module _ (members : List Member) (is : AreWhole members) (p : Member) (m : Metho
   abbrev Together : JOp → Type 0
   Together op = IsNamedIn group (joint_image (images_of members)) (homes_of members) (tables_of members) m stack op
 
-  -- 310
-  variable_off : (class : ClassTree) (op : JOp) → IsInsnOf p.files (let one = is.each q p at in one.codes) class op
-      → names_variable p.files op ≡ false
-  variable_off class op insn =
-      let one = is.each q p at in
-      let whole = one.whole in
-      (op_fit one.list p.files one.codes one.settings (kept_names whole.unbroken) class op insn).1
-
-  static_off : (class : ClassTree) (put : Bool) (id : MemberId) → IsInsnOf p.files (let one = is.each q p at in
-      one.codes) class
-      (jop.Static put id) → is_imported_variable p.files (find_field v id.class id.name id.desc) ≡ false
-  unfolding names_variable
-  static_off class put id insn = variable_off class (jop.Static put id) insn
-
-  field_off : (class : ClassTree) (put : Bool) (id : MemberId) → IsInsnOf p.files (let one = is.each q p at in
-      one.codes) class
-      (jop.Field put id) → is_imported_variable p.files (find_field v id.class id.name id.desc) ≡ false
-  unfolding names_variable
-  field_off class put id insn = variable_off class (jop.Field put id) insn
-
   of_field : (class : ClassTree) (put : Bool) (id f : MemberId) (receiver : Cell) → IsInsnOf p.files (let one =
       is.each q p at
       in one.codes) class (jop.Field put id) → is_of v id.class receiver ≡ true
       → IsFieldOf p.files p.image p.near p.tables m id f receiver
       → IsInstanceIn group (joint_image (images_of members)) (homes_of members) (tables_of members) m id f receiver
   of_field class put id f receiver insn fits h =
-      let k = known p.files (solid_at members is q p at) id f false h.found (field_off class put id insn) in
+      let k = known p.files (solid_at members is q p at) id f false h.found (field_off members is q p at class put id insn)
+      in
       let one = k.0 in
       let is_field : f ≡ of_class (let c = one.class in c.name) id = k.1 in
       record {
@@ -106,6 +114,13 @@ module _ (members : List Member) (is : AreWhole members) (p : Member) (m : Metho
             (ap (is_of v id.class) (sym on) ∙ fits) kind some made);
       }
 
+  -- a call on a receiver, whose types are one word each
+  receives : (op : ℕ) (id : MemberId) → IsWordDesc id.desc → IsReceiverIn members id p.files (let n = m.id in n.class)
+      stack op → Together (jop.Call op id)
+  receives op id word h = names.a_call_on_receiver (subst (λ f. together.IsReceiverIn group l (homes_of members)
+      (tables_of members) f (let n = m.id in n.class) stack op id) (sym (files_are members is p m at))
+      (receiver_of members is id word p.files (let n = m.id in n.class) stack op h))
+
   -- a call by invokevirtual
   virtual_stands : (id : MemberId) → IsReached p.files (let one = is.each q p at in one.codes) m (jop.Call 0xB6 id) t
       → (c : calls.IsCallee p.files id) → is_constructor id.name ≡ false
@@ -114,24 +129,18 @@ module _ (members : List Member) (is : AreWhole members) (p : Member) (m : Metho
   virtual_stands id r c plain wanted rest = by (is_package_visible (let hit = c.hit in hit.flags)) refl
       (is_interface (let hit = c.hit in let o = hit.owner in o.flags)) refl
     where
-      stands : IsReceiverIn group l (homes_of members) (tables_of members) p.files (let n = m.id in n.class) stack 0xB6 id
-          → Together (jop.Call 0xB6 id)
-      stands h = names.a_call_on_receiver (subst (λ f. IsReceiverIn group l (homes_of members) (tables_of members) f
-          (let n = m.id in n.class) stack 0xB6 id) (sym (files_are members is p m at)) h)
-
       by : (a : Bool) → is_package_visible (let hit = c.hit in hit.flags) ≡ a → (b : Bool)
           → is_interface (let hit = c.hit in let o = hit.owner in o.flags) ≡ b → Together (jop.Call 0xB6 id)
-      by true e b f = stands (hidden_stands members is q p at (let one = is.each q p at in one.codes) m t id r c plain
-          wanted e (let n = m.id in n.class))
+      by true e b f = receives 0xB6 id c.desc (hidden_stands members is q p at (let one = is.each q p at in one.codes) m
+          t id r (named_callee c) plain wanted e (let n = m.id in n.class))
       by false e true f = rest (inl f)
-      by false e false f = either (shared_or_not members is q p at (let one = is.each q p at in one.codes) m t id r c
-          plain wanted e f (let n = m.id in n.class))
+      by false e false f = either (shared_or_not members is q p at (let one = is.each q p at in one.codes) m t id r
+          (named_callee c) plain wanted e f (let n = m.id in n.class))
         where
           either : (let hit = c.hit in IsOfMember members hit.owner)
-              ⊎ IsReceiverIn group l (homes_of members) (tables_of members) p.files (let n = m.id in n.class) stack 0xB6
-              id → Together (jop.Call 0xB6 id)
+              ⊎ IsReceiverIn members id p.files (let n = m.id in n.class) stack 0xB6 → Together (jop.Call 0xB6 id)
           either (inl shared) = rest (inr shared)
-          either (inr h) = stands h
+          either (inr h) = receives 0xB6 id c.desc h
 
   -- a call on a receiver, of a method that is selected or not
   call_stands : (op : ℕ) (id : MemberId) → IsReached p.files (let one = is.each q p at in one.codes) m (jop.Call op id)
@@ -145,10 +154,9 @@ module _ (members : List Member) (is : AreWhole members) (p : Member) (m : Metho
           is.each q p at in one.codes) m (jop.Call op id) t → (IsSelecting members f → Together (jop.Call op id))
           → Together (jop.Call op id)
       by (calls.on_class plain wanted) r rest = virtual_stands id r h.method plain wanted rest
-      by (calls.itself ground special) r rest = names.a_call_on_receiver (subst (λ f. IsReceiverIn group l (homes_of
-          members) (tables_of members) f (let n = m.id in n.class) stack 0xB7 id) (sym (files_are members is p m at))
-          (itself_stands members is q p at (let one = is.each q p at in one.codes) m t id r h.method ground special
-          (let n = m.id in n.class)))
+      by (calls.itself ground special) r rest = receives 0xB7 id (let c = h.method in c.desc) (itself_stands members is
+          q p at (let one = is.each q p at in one.codes) m t id r (named_callee h.method) ground special (let n = m.id
+          in n.class))
       by (calls.above_holder callee ground plain chosen) r rest = rest tt
       by (calls.by_interface plain wanted) r rest = rest tt
 
@@ -160,7 +168,8 @@ module _ (members : List Member) (is : AreWhole members) (p : Member) (m : Metho
   stand _ r selects (alone.a_put_field {named = id} f h) left = names.a_put_field f (of_field r.class true id f
       (operand stack 1) r.insn (r.fits 1 (omega arith)) h)
   stand _ r selects (alone.a_static {put = put} {named = id} f h) left =
-      let k = known p.files (solid_at members is q p at) id f true h.found (static_off r.class put id r.insn) in
+      let k = known p.files (solid_at members is q p at) id f true h.found (static_off members is q p at r.class put id
+      r.insn) in
       names.a_static f (record {
         desc = h.desc;
         found = same_field members is p m at id true k.0 (Static f) h.found;
@@ -188,8 +197,5 @@ module _ (members : List Member) (is : AreWhole members) (p : Member) (m : Metho
 
 module _ (members : List Member) (is : AreWhole members) where
   pub names_stand : SelectionsStand members → StandTogether members
-  names_stand selects p m at place i t there row h left =
-      let one = is.each (number_of members m) p at in
-      stand members is p m at t i.op (reached one.list p.files one.codes one.settings p.tables one.whole m place i t
-      there
-      row) (λ g wanted. selects p m at place i t there row g wanted) h left
+  names_stand selects p m at place i t there row h left = stand members is p m at t i.op (reached_at members is
+      (number_of members m) p at m place i t there row) (λ g wanted. selects p m at place i t there row g wanted) h left

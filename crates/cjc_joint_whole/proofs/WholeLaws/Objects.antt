@@ -26,7 +26,7 @@ use Rattle.cjc_joint_theorem.specs.Together.Homes.{joint_world}
 use Rattle.cjc_joint_theorem.proofs.MembersLaws.Worlds.{files_at, member_at}
 use Rattle.cjc_joint_theorem.proofs.OrderedLaws.Ordered.{IsJoint, joint_class, ordered, outside_file, own_file}
 use Rattle.cjc_joint_theorem.proofs.OrderedLaws.Standing.{class_stands, same_abstract, same_kind}
-use Rattle.cjc_joint_whole.specs.Whole.{AreWhole}
+use Rattle.cjc_joint_whole.specs.Whole.{AreWholeWith}
 use Rattle.cjc_joint_whole.proofs.WholeLaws.Members.{ordered_together}
 
 -- ---- lists
@@ -65,7 +65,7 @@ of_objects class (f ∷ fields) h = by (is_static f.flags) (of_objects class fie
     by false rest = ap (λ x. x && list_all is_field (instance_fields class (map field_of_class fields))) (h 0 f refl)
         ∙ rest
 
-module _ (members : List Member) (is : AreWhole members) where
+module _ {K : _} (members : List Member) (is : AreWholeWith K members) where
   abbrev group : List Files
   group = files_of members
 

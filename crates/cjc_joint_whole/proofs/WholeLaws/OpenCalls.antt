@@ -6,7 +6,7 @@ use Rattle.cjc_bytes.specs.AccessFlags.{is_interface}
 use Rattle.cjc_bytes.specs.declared.fault.MemberId.{MemberId}
 use Rattle.cjc_components.specs.Bytecode.declared.insn.JOp.TheVariants as jop
 use Rattle.cjc_components.specs.Bytecode.declared.method_code.MethodCode.{MethodCode}
-use Rattle.cjc_jvm_semantics.specs.Group.{is_open, is_package_visible, joint_exports, joint_image, joint_method}
+use Rattle.cjc_jvm_semantics.specs.Group.{is_open, is_package_visible, joint_exports, joint_method}
 use Rattle.cjc_jvm_semantics.specs.Linked.{Method}
 use Rattle.cjc_jvm_semantics.specs.OnePackage.{ResolvedMember, is_constructor, is_initialiser, method_hit}
 use Rattle.cjc_vtable.specs.Calls.{is_special}
@@ -21,8 +21,6 @@ use Rattle.cjc_world.specs.Upwards.{Below}
 use Rattle.cjc_world.specs.declared.found.Found.{Found}
 use Rattle.cjc_world.proofs.Subtypes.{transitive}
 use Rattle.cjc_vtable.proofs.Filed.{IsFiled, filed, get-has, has-get, in_class_file, in_export_file, of-imports}
-use Rattle.cjc_narrow_proof.specs.NCode.ByLabel.{Named}
-use Rattle.cjc_narrow_proof.specs.Runs.Calls as alone
 use Rattle.cjc_narrow_proof.specs.Script.Sorts.{shape_name}
 use Rattle.cjc_token_proof.proofs.WorldProofOwn.{IsAt}
 use Rattle.cjc_token_proof.proofs.WorldProofTypes.{type_below}
@@ -34,17 +32,18 @@ use Rattle.cjc_joint_proof.specs.Worlds.{AreApart, before, outside_classes}
 use Rattle.cjc_joint_proof.proofs.AboveLaws.{flat_at}
 use Rattle.cjc_joint_proof.proofs.SoundLaws.{apart}
 use Rattle.cjc_joint_proof.proofs.WorldLaws.{outside_is_found, own_is_found}
-use Rattle.cjc_joint_theorem.specs.Members.{Member, files_of, homes_of, images_of, tables_of}
-use Rattle.cjc_joint_theorem.specs.Together.Calls.{IsReceiverIn, selected_together}
+use Rattle.cjc_joint_theorem.specs.Members.{Member, files_of}
+use Rattle.cjc_joint_theorem.specs.Together.Calls.{selected_together}
 use Rattle.cjc_joint_theorem.specs.Together.Calls as together
-use Rattle.cjc_joint_theorem.specs.Together.Homes.{group_look_ups, joint_world}
-use Rattle.cjc_joint_theorem.proofs.MembersLaws.Worlds.{files_at, type_there}
-use Rattle.cjc_joint_whole.specs.Whole.{AreWhole, IsExport, IsOfMember, from_outside, of_member}
+use Rattle.cjc_joint_theorem.specs.Together.Homes.{joint_world}
+use Rattle.cjc_joint_theorem.proofs.MembersLaws.Worlds.{files_at}
+use Rattle.cjc_joint_whole.specs.ModesCalls.{IsNamedCallee, IsReceiverIn}
+use Rattle.cjc_joint_whole.specs.Whole.{AreWholeWith, IsExport, IsOfMember, from_outside, of_member}
 use Rattle.cjc_joint_whole.proofs.WholeLaws.Accepted.{receiver_is}
 use Rattle.cjc_joint_whole.proofs.WholeLaws.Coded.{class_there, found_there, hit_there}
 use Rattle.cjc_joint_whole.proofs.WholeLaws.Exposed.{own_here}
 use Rattle.cjc_joint_whole.proofs.WholeLaws.Imports.{exported}
-use Rattle.cjc_joint_whole.proofs.WholeLaws.Members.{are_members, plain_together, supers_together}
+use Rattle.cjc_joint_whole.proofs.WholeLaws.Members.{plain_together, supers_together, type_together}
 use Rattle.cjc_joint_whole.proofs.WholeLaws.Owners.{HasOwner, outside_met, own_met, owner_of}
 use Rattle.cjc_joint_whole.proofs.WholeLaws.Reached.{IsReached}
 use Rattle.cjc_joint_whole.proofs.WholeLaws.Receivers.{receiver_in}
@@ -65,9 +64,9 @@ special_off false false e f = refl
 special_off true b e f = absurd cc
 special_off false true e f = absurd cc
 
-module _ (members : List Member) (is : AreWhole members) (q : ℕ) (p : Member) (at : slice_get members q ≡ Some p)
-    (codes : List MethodCode) (m : Method) (t : State) (id : MemberId)
-    (r : IsReached p.files codes m (jop.Call 0xB6 id) t) (c : alone.IsCallee p.files id)
+module _ {K : _} (members : List Member) (is : AreWholeWith K members) (q : ℕ) (p : Member)
+    (at : slice_get members q ≡ Some p) (codes : List MethodCode) (m : Method) (t : State) (id : MemberId)
+    (r : IsReached p.files codes m (jop.Call 0xB6 id) t) (c : IsNamedCallee p.files id)
     (ordinary : is_constructor id.name ≡ false) (wanted : (let hit = c.hit in is_selectable hit.flags) ≡ true)
     (shown : (let hit = c.hit in is_package_visible hit.flags) ≡ false)
     (ground : (let hit = c.hit in let o = hit.owner in is_interface o.flags) ≡ false) where
@@ -82,9 +81,6 @@ module _ (members : List Member) (is : AreWhole members) (q : ℕ) (p : Member) 
 
   abbrev hit : ResolvedMember
   hit = c.hit
-
-  abbrev l : Named
-  l = group_look_ups group (joint_image (images_of members)) (homes_of members) (tables_of members)
 
   abbrev stack : List Cell
   stack = cells_of t.stack
@@ -165,8 +161,7 @@ module _ (members : List Member) (is : AreWhole members) (q : ℕ) (p : Member) 
 
   -- ---- the call
 
-  open_stands : (s : StandsOpen) → (holder : List ℕ) → IsReceiverIn group l (homes_of members) (tables_of members)
-      p.files holder stack 0xB6 id
+  open_stands : (s : StandsOpen) → (holder : List ℕ) → IsReceiverIn members id p.files holder stack 0xB6
   open_stands s holder = record {
     method = record {
       place = c.place;
@@ -180,9 +175,7 @@ module _ (members : List Member) (is : AreWhole members) (q : ℕ) (p : Member) 
       is_met = s.is_met;
       is_above = above;
       no_initialiser = c.no_initialiser;
-      desc = c.desc;
-      result = λ kind e. type_there members (are_members members is) q p.files (files_at members q p at) kind (c.result
-          kind e);
+      result = λ kind e. type_together members is q p.files (files_at members q p at) kind (c.result kind e);
     };
     class = id.class;
     choice = λ type. selected_together group s.met type id;
@@ -209,7 +202,7 @@ module _ (members : List Member) (is : AreWhole members) (q : ℕ) (p : Member) 
 
   -- it stands, unless the class is of another package of the group
   pub shared_or_not : (holder : List ℕ) → IsOfMember members (let h = hit in h.owner)
-      ⊎ IsReceiverIn group l (homes_of members) (tables_of members) p.files holder stack 0xB6 id
+      ⊎ IsReceiverIn members id p.files holder stack 0xB6
   shared_or_not holder =
       let o = owned in
       by (filed p.files (let d = o.class in d.name) o.class o.named) o.named o.own o.at o.is_hit
@@ -219,7 +212,7 @@ module _ (members : List Member) (is : AreWhole members) (q : ℕ) (p : Member) 
           → (a : IsAt false id.name id.desc (imported n e) c.place)
           → hit ≡ record { owner = imported n e; flags = (let x = a.member in x.flags) } → (u : ExportTree) (k : ℕ)
           → slice_get u.classes k ≡ Some e → IsExport members q u → IsOfMember members (let h = hit in h.owner)
-          ⊎ IsReceiverIn group l (homes_of members) (tables_of members) p.files holder stack 0xB6 id
+          ⊎ IsReceiverIn members id p.files holder stack 0xB6
       of_tree n e file named own a told u k listed (of_member j g less there written) =
           let x = exported g.files u written k e listed in
           inl (record {
@@ -239,8 +232,7 @@ module _ (members : List Member) (is : AreWhole members) (q : ℕ) (p : Member) 
       by : {d : Class} → IsFiled p.files d → class_named v d.name ≡ Some d
           → own_method false id.name id.desc d ≡ Some c.place → (a : IsAt false id.name id.desc d c.place)
           → hit ≡ record { owner = d; flags = (let x = a.member in x.flags) }
-          → IsOfMember members (let h = hit in h.owner) ⊎ IsReceiverIn group l (homes_of members) (tables_of members)
-          p.files holder stack 0xB6 id
+          → IsOfMember members (let h = hit in h.owner) ⊎ IsReceiverIn members id p.files holder stack 0xB6
       by (in_class_file n o file) named own a told = inr (open_stands (own_open n o file own a told) holder)
       by (in_export_file n e file) named own a told =
           let f = p.files in

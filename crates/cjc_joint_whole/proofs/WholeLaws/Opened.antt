@@ -45,7 +45,7 @@ use Rattle.cjc_joint_theorem.proofs.MembersLaws.Worlds.{files_at}
 use Rattle.cjc_joint_theorem.proofs.OrderedLaws.Ordered.{ordered}
 use Rattle.cjc_joint_theorem.proofs.OrderedLaws.Selected.{where_moves, where_tells}
 use Rattle.cjc_joint_whole.specs.Entries.{MeantAreListed}
-use Rattle.cjc_joint_whole.specs.Whole.{AreWhole, IsWrittenFor}
+use Rattle.cjc_joint_whole.specs.Whole.{AreWholeWith, IsWrittenFor}
 use Rattle.cjc_joint_whole.proofs.WholeLaws.Climbing.{climbing}
 use Rattle.cjc_joint_whole.proofs.WholeLaws.Exposed.{named_here, own_here, stands_once}
 use Rattle.cjc_joint_whole.proofs.WholeLaws.Members.{ordered_together}
@@ -54,7 +54,7 @@ use Rattle.cjc_joint_whole.proofs.WholeLaws.Shown.{shown_listed, shows_above, sh
 use Rattle.cjc_joint_whole.proofs.WholeLaws.Solid.{solid_at}
 use Rattle.cjc_joint_whole.proofs.WholeLaws.ToldTested.{meant_of, tested_at}
 
-module _ (members : List Member) (is : AreWhole members) where
+module _ {K : _} (members : List Member) (is : AreWholeWith K members) where
   abbrev group : List Files
   group = files_of members
 

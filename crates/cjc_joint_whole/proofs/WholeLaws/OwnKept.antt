@@ -25,7 +25,7 @@ use Rattle.cjc_world.specs.ExportFile.declared.tree.ExportTree.{ExportTree}
 use Rattle.cjc_world.specs.Files.{Files}
 use Rattle.cjc_world.specs.Lookup.{is_selectable}
 use Rattle.cjc_joint_theorem.specs.Members.{Member}
-use Rattle.cjc_joint_whole.specs.Whole.{AreWhole}
+use Rattle.cjc_joint_whole.specs.Whole.{AreWholeWith}
 use Rattle.cjc_joint_whole.proofs.WholeLaws.HiddenStands.{shown_entry}
 use Rattle.cjc_joint_whole.proofs.WholeLaws.Shown.{parts_open}
 use Rattle.cjc_joint_whole.proofs.WholeLaws.ToldTested.{tested_at}
@@ -97,7 +97,8 @@ none_coded e f = let no : true ≡ false = sym (ap is_some e) ∙ f in cc
 
 -- ---- of a package of a group
 
-module _ (members : List Member) (is : AreWhole members) (q : ℕ) (p : Member) (at : slice_get members q ≡ Some p) where
+module _ {K : _} (members : List Member) (is : AreWholeWith K members) (q : ℕ) (p : Member)
+    (at : slice_get members q ≡ Some p) where
   exposed_here : (y : List ℕ) (d : Class) (i : ℕ) (m : WorldMember) → class_named (all_classes p.files) y ≡ Some d
       → d.is_imported ≡ true → is_interface d.flags ≡ false → slice_get d.methods i ≡ Some m → is_virtual m ≡ true
       → is_exposed m.flags ≡ true

@@ -50,7 +50,7 @@ use Rattle.cjc_joint_proof.proofs.WorldLaws.{own_is_found}
 use Rattle.cjc_joint_theorem.specs.Members.{Member, files_of}
 use Rattle.cjc_joint_theorem.specs.Together.Homes.{joint_world}
 use Rattle.cjc_joint_theorem.proofs.MembersLaws.Worlds.{files_at}
-use Rattle.cjc_joint_whole.specs.Whole.{AreWhole, IsExport, IsWrittenFor, from_outside, of_member}
+use Rattle.cjc_joint_whole.specs.Whole.{AreWholeWith, IsExport, IsWrittenFor, from_outside, of_member}
 use Rattle.cjc_joint_whole.proofs.WholeLaws.Coded.{InFile, found_there}
 use Rattle.cjc_joint_whole.proofs.WholeLaws.Exposed.{exposed_here, own_here}
 use Rattle.cjc_joint_whole.proofs.WholeLaws.Solid.{solid_at}
@@ -167,7 +167,8 @@ unbound_alike (a ∷ ms) (b ∷ os) same t x e =
     by true false s f rest = cc
     by false true s f rest = cc
 
-module _ (members : List Member) (is : AreWhole members) (q : ℕ) (p : Member) (at : slice_get members q ≡ Some p)
+module _ {K : _} (members : List Member) (is : AreWholeWith K members) (q : ℕ) (p : Member)
+    (at : slice_get members q ≡ Some p)
     (id : MemberId) (initial : is_initialiser id.name ≡ false) (place : Found) (hit : ResolvedMember)
     (is_hit : method_hit (all_classes p.files) place ≡ Some hit) where
   abbrev group : List Files

@@ -19,10 +19,10 @@ use Rattle.cjc_joint_theorem.specs.Together.Homes.{group_look_ups, joint_world}
 use Rattle.cjc_joint_theorem.proofs.MembersLaws.Worlds.{files_at}
 use Rattle.cjc_joint_theorem.proofs.OrderedLaws.Ordered.{object_abroad}
 use Rattle.cjc_joint_theorem.proofs.OrderedLaws.Standing.{class_stands, same_kind}
-use Rattle.cjc_joint_whole.specs.Whole.{AreWhole}
+use Rattle.cjc_joint_whole.specs.Whole.{AreWholeWith}
 use Rattle.cjc_joint_whole.proofs.WholeLaws.Members.{ordered_together, plain_together}
 
-module _ (members : List Member) (is : AreWhole members) where
+module _ {K : _} (members : List Member) (is : AreWholeWith K members) where
   abbrev group : List Files
   group = files_of members
 

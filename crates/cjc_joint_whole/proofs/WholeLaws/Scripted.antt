@@ -13,15 +13,13 @@ use Rattle.cjc_bytes.proofs.Gets.{any_at, any_off}
 use Rattle.cjc_bytes.proofs.Lists.{bytes_true, name_is}
 use Rattle.cjc_bytes.proofs.Options.{not_far, some_shape, then_some, where_true}
 use Rattle.cjc_bytes.proofs.Quantified.{each_weaker}
-use Rattle.cjc_jvm_semantics.specs.Group.{group_sent, is_open, is_package_visible, joint, joint_classes, joint_image}
+use Rattle.cjc_jvm_semantics.specs.Group.{group_sent, is_open, is_package_visible, joint, joint_classes}
 use Rattle.cjc_jvm_semantics.specs.Group.{own_where, own_within, package_of, selection_for}
 use Rattle.cjc_jvm_semantics.specs.Linked.{Callee, Inside, Method}
 use Rattle.cjc_jvm_semantics.specs.OnePackage.{ResolvedMember, entry_in, entry_named, is_constructor}
 use Rattle.cjc_jvm_semantics.specs.OnePackage.{is_initialiser, is_sendable, method_at, method_by, method_hit, method_in}
 use Rattle.cjc_jvm_semantics.specs.OnePackage.{sent_by}
-use Rattle.cjc_narrow_proof.specs.Laws.Unbroken.{AreSpelt}
 use Rattle.cjc_narrow_proof.specs.NCode.ByLabel.{Named}
-use Rattle.cjc_narrow_proof.specs.Runs.Begun.{IsBegun}
 use Rattle.cjc_narrow_proof.specs.Runs.Tables.{Tables}
 use Rattle.cjc_narrow_proof.specs.Runs.Types.{IsThere}
 use Rattle.cjc_narrow_proof.specs.Script.Sorts.{Reference, Shape, shape_name}
@@ -30,7 +28,6 @@ use Rattle.cjc_narrow_proof.specs.Tables.Calls.{IsWordDesc, types_of}
 use Rattle.cjc_narrow_proof.proofs.LawsLaws.Own.{own_kept}
 use Rattle.cjc_shape_proof.specs.WorldProof.Calls.Targets.{IsOwnCode, IsReceiver, IsTarget}
 use Rattle.cjc_shape_proof.specs.WorldProof.Calls.Targets as targets
-use Rattle.cjc_shape_proof.proofs.FindsLaws.Begun.{begun}
 use Rattle.cjc_shape_proof.proofs.FindsLaws.Callees.{params_there}
 use Rattle.cjc_shape_proof.proofs.FindsLaws.Descs.{member_desc, parts_are}
 use Rattle.cjc_token_proof.proofs.WorldProofOwn.{hit_is, mapped_at, own_at}
@@ -56,18 +53,19 @@ use Rattle.cjc_joint_proof.proofs.MemberLaws.{entry_named_stays, method_stays}
 use Rattle.cjc_joint_proof.proofs.PackageNames.{package_is}
 use Rattle.cjc_joint_proof.proofs.SoundLaws.{apart, listed}
 use Rattle.cjc_joint_proof.proofs.WorldLaws.{joint_from, outside_at_number, own_at_number}
-use Rattle.cjc_joint_theorem.specs.Members.{AreScripted, Member, files_of, homes_of, images_of, tables_of}
-use Rattle.cjc_joint_theorem.specs.Together.Converted.{IsMemberIn, a_member, no_method}
-use Rattle.cjc_joint_theorem.specs.Together.Homes.{Homes, IsBegunIn, group_look_ups, joint_world}
-use Rattle.cjc_joint_theorem.proofs.MembersLaws.Worlds.{files_at, member_at as member_of_files, type_there}
+use Rattle.cjc_joint_theorem.specs.Members.{AreScripted, Member, files_of, homes_of, tables_of}
+use Rattle.cjc_joint_theorem.specs.Together.Converted.{IsFoundIn, IsMemberIn, a_member, no_method}
+use Rattle.cjc_joint_theorem.specs.Together.Homes.{Homes, joint_world}
+use Rattle.cjc_joint_theorem.proofs.MembersLaws.Worlds.{files_at, member_at as member_of_files}
 use Rattle.cjc_joint_theorem.proofs.OrderedLaws.Ordered.{IsJoint, joint_class, ordered, outside_file, own_file}
-use Rattle.cjc_joint_whole.specs.Whole.{AreWhole}
-use Rattle.cjc_joint_whole.proofs.WholeLaws.Begun.{begun_here}
+use Rattle.cjc_joint_whole.specs.ModesCalls.{IsOwnOf, joint_look_ups}
+use Rattle.cjc_joint_whole.specs.Whole.{AreWhole, AreWholeWith}
+use Rattle.cjc_joint_whole.proofs.WholeLaws.Begun.{begun_alone, begun_of}
 use Rattle.cjc_joint_whole.proofs.WholeLaws.Coded.{InFile, class_there, found_there, hit_there}
 use Rattle.cjc_joint_whole.proofs.WholeLaws.Exposed.{named_here, own_here}
 use Rattle.cjc_joint_whole.proofs.WholeLaws.Hidden.{hidden_selected}
 use Rattle.cjc_joint_whole.proofs.WholeLaws.HiddenStands.{no_static}
-use Rattle.cjc_joint_whole.proofs.WholeLaws.Members.{are_members, ordered_together, plain_together}
+use Rattle.cjc_joint_whole.proofs.WholeLaws.Members.{ordered_together, plain_together, type_together}
 use Rattle.cjc_joint_whole.proofs.WholeLaws.Receivers.{receiver_in}
 use Rattle.cjc_joint_whole.proofs.WholeLaws.Selected.{concrete, holds}
 use Rattle.cjc_joint_whole.proofs.WholeLaws.Shown.{IsWhere, called_parts, open_parts}
@@ -103,14 +101,6 @@ same_place_found e = cc
 
 -- ---- methods with code of some package
 
--- A method with code of a class file of a package of the group, of this name and descriptor, on objects or not.
-pub record IsOwnOf (members : List Member) (id : MemberId) (on : Bool) (m : Method) : Type 0 where
-  pub part : ℕ
-  pub member : Member
-  pub at : slice_get members part ≡ Some member
-  pub code : IsOwnCode member.files id m
-  pub flags : is_static (let c = code in let k = c.method in k.flags) ≡ not on
-
 abbrev is_coded_as : MemberId → MethodTree → Bool
 is_coded_as id k = is_some k.code && (bytes_eq k.name id.name && bytes_eq k.desc id.desc)
 
@@ -118,20 +108,20 @@ abbrev has_coded : MemberId → ClassTree → Bool
 has_coded id t = list_any (λ k. is_coded_as id k) t.methods
 
 -- A method of this name and descriptor with code, in a package at a place.
-record IsCodedIn (members : List Member) (id : MemberId) : Type 0 where
-  part : ℕ
-  member : Member
-  at : slice_get members part ≡ Some member
-  number : ℕ
-  class : ClassTree
-  is_class : (let f = member.files in slice_get f.classes number ≡ Some class)
-  place : ℕ
-  method : MethodTree
-  is_method : slice_get class.methods place ≡ Some method
-  tree : CodeTree
-  is_code : method.code ≡ Some tree
-  has_name : method.name ≡ id.name
-  has_desc : method.desc ≡ id.desc
+pub record IsCodedIn (members : List Member) (id : MemberId) : Type 0 where
+  pub part : ℕ
+  pub member : Member
+  pub at : slice_get members part ≡ Some member
+  pub number : ℕ
+  pub class : ClassTree
+  pub is_class : (let f = member.files in slice_get f.classes number ≡ Some class)
+  pub place : ℕ
+  pub method : MethodTree
+  pub is_method : slice_get class.methods place ≡ Some method
+  pub tree : CodeTree
+  pub is_code : method.code ≡ Some tree
+  pub has_name : method.name ≡ id.name
+  pub has_desc : method.desc ≡ id.desc
 
 -- one of the packages has such a method, or none
 scan : (id : MemberId) (ms : List Member) → IsCodedIn ms id ⊎ ((q : ℕ) (p : Member) → slice_get ms q ≡ Some p → (m : Method)
@@ -206,21 +196,15 @@ scan id (p ∷ ms) = ⊎_elim
     neither off none zero g at m code = let same : p ≡ g = cc in none_here off g same m code
     neither off none (suc q) g at m code = none q g at m code
 
-module _ (members : List Member) (is : AreWhole members) where
+module _ {K : _} (members : List Member) (is : AreWholeWith K members) where
   abbrev group : List Files
   group = files_of members
 
   abbrev w : List Class
   w = joint_world group
 
-  abbrev homes : Homes
-  homes = homes_of members
-
-  abbrev tables : Tables
-  tables = tables_of members
-
   abbrev l : Named
-  l = group_look_ups group (joint_image (images_of members)) homes tables
+  l = joint_look_ups members
 
   order : IsOrdered w
   order = ordered group (ordered_together members is)
@@ -228,27 +212,7 @@ module _ (members : List Member) (is : AreWhole members) where
   are_apart : AreApart group
   are_apart = apart group is.sound
 
-  spelt_at : (q : ℕ) (p : Member) → slice_get members q ≡ Some p → AreSpelt p.files
-  spelt_at q p at =
-      let one = is.each q p at in
-      let whole = one.whole in
-      record { package_name = whole.package_name; exports = (let s = whole.sound in s.names) }
-
   -- ---- methods with code
-
-  begun_alone : (q : ℕ) (p : Member) → slice_get members q ≡ Some p → (id : MemberId) → is_initialiser id.name ≡ false
-      → (on : Bool) (m : Method) (code : IsOwnCode p.files id m) → is_static (let k = code.method in k.flags) ≡ not on
-      → IsBegun p.files p.tables on id.desc m
-  begun_alone q p at id initial on m code flags =
-      let one = is.each q p at in
-      let whole = one.whole in
-      begun one.list p.files one.codes one.settings whole.unbroken (spelt_at q p at) p.tables whole.tabled on id initial
-      m code flags
-
-  begun_of : (id : MemberId) (on : Bool) (m : Method) → is_initialiser id.name ≡ false → IsOwnOf members id on m
-      → IsBegunIn group homes tables on id.desc m
-  begun_of id on m initial o = begun_here members is o.part o.member o.at on id.desc m (begun_alone o.part o.member o.at
-      id initial on m o.code o.flags)
 
   -- what stands at a method of a class file that is not abstract
   code_of : (id : MemberId) (x : InFile members id) (on : Bool) → is_static (let k = x.method in k.flags) ≡ not on
@@ -289,7 +253,7 @@ module _ (members : List Member) (is : AreWhole members) where
 
   -- ---- what is called
 
-  called_of : (id : MemberId) (m : Method) → entry_named (joint group) w id ≡ Some m → IsOwnOf members id false m
+  pub called_of : (id : MemberId) (m : Method) → entry_named (joint group) w id ≡ Some m → IsOwnOf members id false m
   called_of id m e =
       let inner = behind_test (is_initialiser id.name) (option_and_then (entry_in (joint group) id)
       (class_named w id.class)) m e in
@@ -320,7 +284,7 @@ module _ (members : List Member) (is : AreWhole members) where
           let at = own_at false id.name id.desc (imported n y) f three.1 in
           absurd (true_not_false f.imported (ap (λ (g : Found). g.imported) at.is) (not_far f.imported _ m five))
 
-  called_plain : (id : MemberId) (m : Method) → entry_named (joint group) w id ≡ Some m → is_initialiser id.name ≡ false
+  pub called_plain : (id : MemberId) (m : Method) → entry_named (joint group) w id ≡ Some m → is_initialiser id.name ≡ false
   called_plain id m e = not_far (is_initialiser id.name) (option_and_then (entry_in (joint group) id)
       (class_named w id.class)) m e
 
@@ -440,10 +404,10 @@ module _ (members : List Member) (is : AreWhole members) where
   -- ---- what is sent
 
   -- A method with code that is sent to an object of a type, of a class that the type is of.
-  record IsSent (id : MemberId) (type : List ℕ) (m : Method) : Type 0 where
-    own : IsOwnOf members id true m
-    initial : is_initialiser id.name ≡ false
-    below : is_subtype w type (let n = m.id in n.class) ≡ true
+  pub record IsSent (id : MemberId) (type : List ℕ) (m : Method) : Type 0 where
+    pub own : IsOwnOf members id true m
+    pub initial : is_initialiser id.name ≡ false
+    pub below : is_subtype w type (let n = m.id in n.class) ≡ true
 
   -- where the group has a method, it has a package
   some_member : (f : Found) (m : Method) → method_at (joint group) f ≡ Some m → (q : ℕ) × (p : Member)
@@ -457,7 +421,7 @@ module _ (members : List Member) (is : AreWhole members) where
       let from = member_of_files members at.part at.files own.member in
       (at.part, from.0, from.1)
 
-  sent_of : (id : MemberId) (kind : Shape (List ℕ)) → IsMadeOf l kind → (m : Method)
+  pub sent_of : (id : MemberId) (kind : Shape (List ℕ)) → IsMadeOf l kind → (m : Method)
       → group_sent (joint group) w (shape_name kind) id ≡ Some m → IsSent id (shape_name kind) m
   sent_of id kind made m e = record { own = code.0; initial = initial; below = below }
     where
@@ -544,14 +508,15 @@ module _ (members : List Member) (is : AreWhole members) where
 
   -- ---- members of scripts
 
-  module _ (id : MemberId) (initial : is_initialiser id.name ≡ false) (r : IsCodedIn members id) where
+  module _ (id : MemberId) (r : IsCodedIn members id) where
     abbrev p : Member
     p = r.member
 
     abbrev v : List Class
     v = all_classes p.files
 
-    abbrev code_there : IsOwnCode p.files id (method_by r.class r.method (Some r.tree))
+    -- it is one that is called or sent
+    pub code_there : IsOwnCode p.files id (method_by r.class r.method (Some r.tree))
     code_there = record {
       class = r.class;
       method = r.method;
@@ -563,17 +528,21 @@ module _ (members : List Member) (is : AreWhole members) where
       desc = r.has_desc;
     }
 
-    word_desc : IsWordDesc id.desc
-    word_desc = ⊎_elim (λ static. of_begun false (begun_alone r.part p r.at id initial false
-        (method_by r.class r.method (Some r.tree)) code_there static)) (λ object. of_begun true (begun_alone r.part p r.at
-        id initial true (method_by r.class r.method (Some r.tree)) code_there object))
-        (true_or_false (is_static (let k = r.method in k.flags)))
+    pub own_there : (on : Bool) × IsOwnOf members id on (method_by r.class r.method (Some r.tree))
+    own_there = (
+      not (is_static (let c = code_there in let k = c.method in k.flags)),
+      record {
+        part = r.part;
+        member = p;
+        at = r.at;
+        code = code_there;
+        flags = sym (not_not (is_static (let c = code_there in let k = c.method in k.flags)));
+      },
+    )
       where
-        of_begun : (on : Bool) → IsBegun p.files p.tables on id.desc (method_by r.class r.method (Some r.tree))
-            → IsWordDesc id.desc
-        of_begun on b =
-            let h = b.has_tables in
-            subst IsWordDesc (sym (ap (λ (g : Method). let i = g.id in i.desc) h.is) ∙ b.desc) h.desc
+        not_not : (b : Bool) → not (not b) ≡ b
+        not_not true = refl
+        not_not false = refl
 
     abbrev AreThere : List Class → List ℕ → Type 0
     AreThere classes desc = AllByRecursion (λ type. (kind : Shape (List ℕ)) → type ≡ Reference kind
@@ -596,31 +565,68 @@ module _ (members : List Member) (is : AreWhole members) where
         subst (AreThere v) r.has_desc (params_there v k.desc written.1 (parts_are k.desc parsed.0 written.1 parsed.1)
         missing)
 
-    member_is : IsMemberIn group l homes tables id
-    member_is = record {
-      desc = word_desc;
-      known = each_weaker (λ type. (kind : Shape (List ℕ)) → type ≡ Reference kind → IsThere v kind)
-          (λ type. (kind : Shape (List ℕ)) → type ≡ Reference kind → IsThere w kind)
-          (let types = types_of id.desc in types.params) (λ type there kind e. type_there members (are_members members
-          is) r.part p.files (files_at members r.part p r.at) kind (there kind e)) known_alone;
-      is_called = λ m e. begun_of id false m initial (called_of id m e);
-      is_sent = λ kind m made e. (let s = sent_of id kind made m e in begun_of id true m initial s.own);
-      receives = λ kind m made e. (let s = sent_of id kind made m e in s.below);
-    }
+    -- its parameters are of types that are there
+    pub known_together : AreThere w id.desc
+    known_together = each_weaker (λ type. (kind : Shape (List ℕ)) → type ≡ Reference kind → IsThere v kind)
+        (λ type. (kind : Shape (List ℕ)) → type ≡ Reference kind → IsThere w kind)
+        (let types = types_of id.desc in types.params) (λ type there kind e. type_together members is r.part p.files
+        (files_at members r.part p r.at) kind (there kind e)) known_alone
 
-  pub scripted : AreScripted members
-  scripted id = ⊎_elim
-      (λ it. no_method
+  -- Nothing is called or sent, or a method of this name and descriptor has code.
+  pub data IsNoneOr (id : MemberId) : Type 0 where
+    none_at_all : entry_named (joint group) w id ≡ None → ((kind : Shape (List ℕ)) → IsMadeOf l kind
+        → group_sent (joint group) w (shape_name kind) id ≡ None) → IsNoneOr id
+    some_one : is_initialiser id.name ≡ false → IsCodedIn members id → IsNoneOr id
+
+  pub none_or : (id : MemberId) → IsNoneOr id
+  none_or id = ⊎_elim
+      (λ it. none_at_all
       (none_where (entry_named (joint group) w id) (λ m e. true_not_false (is_initialiser id.name) it
       (called_plain id m e)))
       (λ kind made. none_where (group_sent (joint group) w (shape_name kind) id) (λ m e. true_not_false
       (is_initialiser id.name) it (let s = sent_of id kind made m e in s.initial))))
       (λ initial. ⊎_elim
-      (λ r. a_member (member_is id initial r))
-      (λ none. no_method
+      (λ r. some_one initial r)
+      (λ none. none_at_all
       (none_where (entry_named (joint group) w id) (λ m e. (let o = called_of id m e in none o.part o.member o.at m
       o.code)))
       (λ kind made. none_where (group_sent (joint group) w (shape_name kind) id) (λ m e. (let s = sent_of id kind made m e
       in let o = s.own in none o.part o.member o.at m o.code))))
       (scan id members))
       (true_or_false (is_initialiser id.name))
+
+-- ---- where no method works on int
+
+module _ (members : List Member) (is : AreWhole members) where
+  abbrev homes : Homes
+  homes = homes_of members
+
+  abbrev tables : Tables
+  tables = tables_of members
+
+  member_is : (id : MemberId) → is_initialiser id.name ≡ false → IsCodedIn members id
+      → IsMemberIn (files_of members) (joint_look_ups members) homes tables id
+  member_is id initial r = record {
+    desc = word_desc;
+    known = known_together members is id r;
+    is_called = λ m e. begun_of members is id false m initial (called_of members is id m e);
+    is_sent = λ kind m made e. (let s = sent_of members is id kind made m e in begun_of members is id true m initial
+        s.own);
+    receives = λ kind m made e. (let s = sent_of members is id kind made m e in s.below);
+  }
+    where
+      word_desc : IsWordDesc id.desc
+      word_desc =
+          let o = own_there members is id r in
+          let own = o.1 in
+          let b = begun_alone members is own.part own.member own.at id initial o.0 (method_by r.class r.method
+          (Some r.tree)) own.code own.flags in
+          let h = b.has_tables in
+          subst IsWordDesc (sym (ap (λ (g : Method). let i = g.id in i.desc) h.is) ∙ b.desc) h.desc
+
+  pub scripted : AreScripted members
+  scripted id = by (none_or members is id)
+    where
+      by : IsNoneOr members is id → IsFoundIn (files_of members) (joint_look_ups members) homes tables id
+      by (none_at_all not_called not_sent) = no_method not_called not_sent
+      by (some_one initial r) = a_member (member_is id initial r)

@@ -26,20 +26,20 @@ use Rattle.cjc_token_proof.proofs.WorldProofOwn.{is_found}
 use Rattle.cjc_token_proof.proofs.WorldProofSelects.{called_by}
 use Rattle.cjc_token_proof.proofs.WorldProofTypes.{below_type}
 use Rattle.cjc_joint_proof.specs.Worlds.{before}
-use Rattle.cjc_joint_theorem.specs.Members.{Member, files_of, homes_of, tables_of}
-use Rattle.cjc_joint_theorem.specs.Together.Calls.{IsChosenIn, selected_together}
-use Rattle.cjc_joint_theorem.specs.Together.Calls as together
-use Rattle.cjc_joint_theorem.specs.Together.Homes.{Homes, joint_world}
+use Rattle.cjc_joint_theorem.specs.Members.{Member, files_of}
+use Rattle.cjc_joint_theorem.specs.Together.Calls.{selected_together}
+use Rattle.cjc_joint_theorem.specs.Together.Homes.{joint_world}
 use Rattle.cjc_joint_theorem.proofs.MembersLaws.Worlds.{member_at as member_of_files}
 use Rattle.cjc_joint_theorem.proofs.OrderedLaws.Ordered.{IsJoint, joint_class, ordered, outside_file, own_file}
-use Rattle.cjc_joint_whole.specs.Whole.{AreWhole}
+use Rattle.cjc_joint_whole.specs.ModesCalls.{IsChosenIn, chooses_import, chooses_method}
+use Rattle.cjc_joint_whole.specs.Whole.{AreWholeWith}
 use Rattle.cjc_joint_whole.proofs.WholeLaws.Coded.{InFile, IsReachedOf, code_reached, hit_there}
 use Rattle.cjc_joint_whole.proofs.WholeLaws.Coded as coded
 use Rattle.cjc_joint_whole.proofs.WholeLaws.Members.{ordered_together, plain_together}
 use Rattle.cjc_joint_whole.proofs.WholeLaws.Opened.{opened_has_code}
 use Rattle.cjc_joint_whole.proofs.WholeLaws.Shown.{IsWhere, called_parts, open_parts, where_at}
 
-module _ (members : List Member) (is : AreWhole members) (id : MemberId)
+module _ {K : _} (members : List Member) (is : AreWholeWith K members) (id : MemberId)
     (plain : is_special (record { name = id.name; desc = id.desc }) ≡ false)
     (initial : is_initialiser id.name ≡ false) where
   abbrev group : List Files
@@ -47,9 +47,6 @@ module _ (members : List Member) (is : AreWhole members) (id : MemberId)
 
   abbrev w : List Class
   w = joint_world group
-
-  abbrev homes : Homes
-  homes = homes_of members
 
   abbrev opened : Class → Option Found
   opened = own_where is_open id.name id.desc
@@ -170,8 +167,7 @@ module _ (members : List Member) (is : AreWhole members) (id : MemberId)
       → class_named w d.name ≡ Some d → is_interface d.flags ≡ false → (i : ℕ) (m : WorldMember)
       → slice_get d.methods i ≡ Some m → m.name ≡ id.name → m.desc ≡ id.desc → is_open m.flags ≡ true
       → (type : List ℕ) → IsReceiver w (receiver type) → Below w (receiver type) d.name → (callee : Callee)
-      × (selected_together group met type id ≡ Some callee)
-      × IsChosenIn group homes (tables_of members) id type callee
+      × (selected_together group met type id ≡ Some callee) × IsChosenIn members id type callee
   selects_open met shown d named ground i m there name desc open_one type r below =
       let x = receiver type in
       let on = on_line w order x d.name r.class d below r.named r.no_interface named ground in
@@ -194,7 +190,7 @@ module _ (members : List Member) (is : AreWhole members) (id : MemberId)
       )
     where
       chosen : (callee : Callee) (y : List ℕ) → IsReachedOf members is id true y callee → Below w (receiver type) y
-          → starts 91 y ≡ false → IsChosenIn group homes (tables_of members) id type callee
-      chosen _ y (coded.inside b same) way name = together.inside b (subst (λ z. is_subtype w type z ≡ true) (sym same)
+          → starts 91 y ≡ false → IsChosenIn members id type callee
+      chosen _ y (coded.inside own same) way name = chooses_method own (subst (λ z. is_subtype w type z ≡ true) (sym same)
           (below_type w type y name way))
-      chosen _ y (coded.abroad e) way name = together.abroad e
+      chosen _ y (coded.abroad e) way name = chooses_import e

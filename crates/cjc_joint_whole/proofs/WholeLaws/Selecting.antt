@@ -19,18 +19,18 @@ use Rattle.cjc_world.specs.Supertypes.{line}
 use Rattle.cjc_world.specs.Upwards.{Below}
 use Rattle.cjc_shape_proof.specs.WorldProof.Calls.Targets.{IsReceiver}
 use Rattle.cjc_token_proof.proofs.WorldProofTypes.{below_type}
-use Rattle.cjc_joint_theorem.specs.Members.{Member, files_of, homes_of, tables_of}
-use Rattle.cjc_joint_theorem.specs.Together.Calls.{IsChosenIn, selected_together}
-use Rattle.cjc_joint_theorem.specs.Together.Calls as together
+use Rattle.cjc_joint_theorem.specs.Members.{Member, files_of}
+use Rattle.cjc_joint_theorem.specs.Together.Calls.{selected_together}
 use Rattle.cjc_joint_theorem.specs.Together.Homes.{joint_world}
+use Rattle.cjc_joint_whole.specs.ModesCalls.{IsChosenIn, chooses_import, chooses_method}
 use Rattle.cjc_joint_whole.specs.Told.{IsToldAbove}
-use Rattle.cjc_joint_whole.specs.Whole.{AreWhole}
+use Rattle.cjc_joint_whole.specs.Whole.{AreWholeWith}
 use Rattle.cjc_joint_whole.proofs.WholeLaws.Coded.{IsReachedOf}
 use Rattle.cjc_joint_whole.proofs.WholeLaws.Coded as coded
 use Rattle.cjc_joint_whole.proofs.WholeLaws.Implemented.{interface_has}
 use Rattle.cjc_joint_whole.proofs.WholeLaws.Selected.{reaches_found, selects_open}
 
-module _ (members : List Member) (is : AreWhole members) (tell : IsToldAbove members) (id : MemberId)
+module _ {K : _} (members : List Member) (is : AreWholeWith K members) (tell : IsToldAbove members) (id : MemberId)
     (initial : is_initialiser id.name ≡ false) (ordinary : is_constructor id.name ≡ false)
     (plain : is_special (record { name = id.name; desc = id.desc }) ≡ false) where
   abbrev group : List Files
@@ -40,16 +40,15 @@ module _ (members : List Member) (is : AreWhole members) (tell : IsToldAbove mem
   w = joint_world group
 
   chosen : (type : List ℕ) (callee : Callee) (y : List ℕ) → IsReachedOf members is id true y callee
-      → Below w (receiver type) y → starts 91 y ≡ false → IsChosenIn group (homes_of members) (tables_of members) id type
-      callee
-  chosen type _ y (coded.inside b same) way name = together.inside b (subst (λ z. is_subtype w type z ≡ true) (sym same)
+      → Below w (receiver type) y → starts 91 y ≡ false → IsChosenIn members id type callee
+  chosen type _ y (coded.inside own same) way name = chooses_method own (subst (λ z. is_subtype w type z ≡ true) (sym same)
       (below_type w type y name way))
-  chosen type _ y (coded.abroad e) way name = together.abroad e
+  chosen type _ y (coded.abroad e) way name = chooses_import e
 
   -- What a call selects on a type.
   abbrev pub Selects : ResolvedMember → (type : List ℕ) → Type 0
   Selects met type = (callee : Callee) × (selected_together group met type id ≡ Some callee)
-      × IsChosenIn group (homes_of members) (tables_of members) id type callee
+      × IsChosenIn members id type callee
 
   -- a method of a class or, on an object of a class file, of an interface
   pub selects_any : (met : ResolvedMember) → is_package_visible met.flags ≡ false → (d : Class)
@@ -84,14 +83,14 @@ module _ (members : List Member) (is : AreWhole members) (tell : IsToldAbove mem
       → m.desc ≡ id.desc → is_open m.flags ≡ true → (type : List ℕ) → IsReceiver w (receiver type)
       → Below w (receiver type) d.name → (callee : Callee) × ((let owner = met.owner in interface_callee (joint group) w
       (selection_for w met) owner.name type id (class_named w (receiver type))) ≡ Some callee)
-      × IsChosenIn group (homes_of members) (tables_of members) id type callee
+      × IsChosenIn members id type callee
   selects_by_interface met shown d named i m there name desc open_one type r way =
       ⊎_elim
       (λ imp. (
         Abroad (of_class (let owner = met.owner in owner.name) id),
         at ∙ ap (λ b. if b then Some (Abroad (of_class (let owner = met.owner in owner.name) id))
             else selected_from (joint group) w (selection_for w met) type id) imp,
-        together.abroad refl,
+        chooses_import refl,
       ))
       (λ own. let s = selects_any met shown d named i m there name desc open_one type r way (λ it. own) in (
         s.0,

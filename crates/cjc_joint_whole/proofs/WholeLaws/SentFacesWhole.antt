@@ -20,7 +20,7 @@ use Rattle.cjc_world.specs.Upwards.{Below}
 use Rattle.cjc_world.specs.declared.found.Found.{Found}
 use Rattle.cjc_joint_whole.specs.SentFaces.{FacesStand}
 use Rattle.cjc_joint_whole.specs.Told.{IsDeclaredAbove, IsToldAbove}
-use Rattle.cjc_joint_whole.specs.Whole.{AreWhole}
+use Rattle.cjc_joint_whole.specs.Whole.{AreWholeWith}
 use Rattle.cjc_joint_whole.proofs.WholeLaws.Implemented.{interface_has}
 use Rattle.cjc_joint_whole.proofs.WholeLaws.OwnKept.{interface_open, kept_at}
 use Rattle.cjc_joint_whole.proofs.WholeLaws.Sources.{source}
@@ -36,7 +36,7 @@ files_there [] q p e = cc
 files_there (x ∷ packages) zero p e = let is : x ≡ p = cc in ap (λ (y : Package). Some y.files) is
 files_there (x ∷ packages) (suc q) p e = files_there packages q p e
 
-module _ (members : List Member) (is : AreWhole members) (tell : IsToldAbove members) where
+module _ {K : _} (members : List Member) (is : AreWholeWith K members) (tell : IsToldAbove members) where
   -- in the joint world of these files, a class file of which objects may be has a method for each of an interface
   abbrev AreImplementedIn : List Files → Type 0
   AreImplementedIn group = (x : List ℕ) (c : Class) → class_named (joint_world group) x ≡ Some c

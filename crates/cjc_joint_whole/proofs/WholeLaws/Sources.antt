@@ -33,13 +33,13 @@ use Rattle.cjc_joint_theorem.specs.Members.{Member, files_of}
 use Rattle.cjc_joint_theorem.specs.Together.Homes.{joint_world}
 use Rattle.cjc_joint_theorem.proofs.MembersLaws.Worlds.{files_at}
 use Rattle.cjc_joint_whole.specs.Told.{IsDeclaredAbove, IsOfKind, IsToldAbove}
-use Rattle.cjc_joint_whole.specs.Whole.{AreWhole, IsExport, IsWrittenFor, from_outside, of_member}
+use Rattle.cjc_joint_whole.specs.Whole.{AreWholeWith, IsExport, IsWrittenFor, from_outside, of_member}
 use Rattle.cjc_joint_whole.proofs.WholeLaws.Exposed.{own_here}
 use Rattle.cjc_joint_whole.proofs.WholeLaws.Imports.{imports_told}
 use Rattle.cjc_joint_whole.proofs.WholeLaws.DeclaredAbove.{listed_are_above}
 use Rattle.cjc_joint_whole.proofs.WholeLaws.OwnKept.{IsKeptBy, kept_at}
 
-module _ (members : List Member) (is : AreWhole members) (tell : IsToldAbove members) where
+module _ {K : _} (members : List Member) (is : AreWholeWith K members) (tell : IsToldAbove members) where
   abbrev group : List Files
   group = files_of members
 

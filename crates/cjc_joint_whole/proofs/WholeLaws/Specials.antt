@@ -3,7 +3,7 @@
 use Rattle.std.proofs.Common.{◌≡◌, ℕ, ◌+◌, ◌-◌, ◌&&◌, ◌||◌, Bool, true, false, List, Some, refl, sym}
 use Rattle.std.proofs.Common.{ap}
 use Rattle.std.proofs.Common.{subst, ◌∙◌, arith, length}
-use Rattle.std.specs.Prelude.{not, is_some, option_map, get_or, slice_get, if◌then◌else◌}
+use Rattle.std.specs.Prelude.{Option, not, is_some, option_map, get_or, slice_get, if◌then◌else◌}
 use Rattle.std.specs.Str.{bytes_eq}
 use Rattle.std.proofs.lemmas.Option.{get_or_from_slice_get}
 use Rattle.cjc_bytes.specs.AccessFlags.{acc_native, acc_strict, acc_synchronized, has, is_abstract, is_interface}
@@ -25,13 +25,14 @@ use Rattle.cjc_world.specs.Upwards.{Below}
 use Rattle.cjc_world.specs.declared.found.Found.{Found}
 use Rattle.cjc_world.proofs.Cycles.{class_named-name}
 use Rattle.cjc_world.proofs.UpwardLaws.Lines.{below_line, line_below, listed_below, method_found_above}
+use Rattle.cjc_components.specs.Bytecode.declared.insn.JInsn.{JInsn}
 use Rattle.cjc_components.specs.Bytecode.declared.insn.JOp.TheVariants as jop
+use Rattle.cjc_vtable.specs.Fixpoint.Tables.{HasRow}
 use Rattle.cjc_vtable.proofs.Filed.{IsFiled, filed, in_class_file, in_export_file}
 use Rattle.cjc_shape_proof.specs.WorldProof.Calls.Solid.{IsSolid}
-use Rattle.cjc_shape_proof.proofs.FindsLaws.Whole.{is_solid}
-use Rattle.cjc_narrow_proof.specs.Laws.Unbroken.{IsInsnOf, IsUnbroken}
+use Rattle.cjc_narrow_proof.specs.Laws.Unbroken.{IsInsnOf, KeepsNames}
 use Rattle.cjc_narrow_proof.specs.Runs.Tables.{body_in}
-use Rattle.cjc_narrow_proof.proofs.LawsLaws.Instructions.{kept_names, method_there, op_there}
+use Rattle.cjc_narrow_proof.proofs.LawsLaws.Instructions.{method_there, op_there}
 use Rattle.cjc_narrow_proof.proofs.LawsLaws.Own.{class_by_name}
 use Rattle.cjc_token_proof.proofs.WorldProofOwn.{IsAt, mapped_at, own_at}
 use Rattle.cjc_token_proof.proofs.WorldProofRules.{method_kept}
@@ -40,11 +41,13 @@ use Rattle.cjc_token_proof.specs.Subset.Flags.{has_two_accesses, is_unfit_method
 use Rattle.cjc_token_proof.specs.Subset.Members as subset
 use Rattle.cjc_token_proof.specs.Subset.Names.{is_bodiless, is_hidden, is_unfit_call, is_unfit_class, is_unfit_method}
 use Rattle.cjc_token_proof.specs.Subset.Names.{is_unfit_super, names_unfit}
+use Rattle.cjc_token_proof.specs.Types.declared.state.State.{State}
 use Rattle.cjc_token_proof.specs.Types.Rules.{is_found_private, is_private_in, names_private, no_member}
 use Rattle.cjc_joint_theorem.specs.Members.{Member as GroupMember}
 use Rattle.cjc_joint_theorem.specs.Rules.{SpecialsFit}
-use Rattle.cjc_joint_whole.specs.Whole.{IsWholeMember}
-use Rattle.cjc_joint_whole.proofs.WholeLaws.Reached.{reached}
+use Rattle.cjc_joint_whole.specs.Whole.{IsMemberWith}
+use Rattle.cjc_joint_whole.proofs.WholeLaws.Reached.{IsReached}
+use Rattle.cjc_joint_whole.proofs.WholeLaws.Solid.{is_solid}
 
 -- ---- tests
 
@@ -84,18 +87,18 @@ one_access interface flags name code e private = by (is_public flags) (is_privat
     by true true r e f g = absurd cc
     by true false r e f g = absurd cc
 
-module _ (p : GroupMember) (one : IsWholeMember p) where
+module _ {K : _} (p : GroupMember) (one : IsMemberWith K p) where
   abbrev files : Files
   files = p.files
 
   abbrev v : List Class
   v = all_classes files
 
-  abbrev unbroken : IsUnbroken one.list files one.codes one.settings
+  abbrev unbroken : KeepsNames one.list files one.codes one.settings
   unbroken = let whole = one.whole in whole.unbroken
 
   solid : IsSolid files
-  solid = is_solid one.list files one.codes one.settings p.tables one.whole
+  solid = is_solid one.list files one.codes one.settings one.whole
 
   abbrev tested : Class → Member → subset.ResolvedMember
   tested d m = record { owner = d; flags = m.flags }
@@ -164,7 +167,7 @@ module _ (p : GroupMember) (one : IsWholeMember p) where
       let u = unbroken in
       let s = solid in
       let order = s.ordered in
-      let ok = op_there one.list files one.codes one.settings (kept_names u) class (jop.Call 0xB7 id) at in
+      let ok = op_there one.list files one.codes one.settings u class (jop.Call 0xB7 id) at in
       let there = method_there files class 0xB7 id ok.0 ok.1 in
       let f = there.1 in
       let found = there.3 in
@@ -203,9 +206,12 @@ module _ (p : GroupMember) (one : IsWholeMember p) where
             id.class (declared (let c = at.code in c.class) class) own foremost way)))),
       )
 
-  pub specials_fit : (m : Method) → SpecialsFit v (body_in files m) (let t = p.tables in t.types m)
-  specials_fit m place i id x there row is plain =
-      let r = reached one.list files one.codes one.settings p.tables one.whole m place i x there row in
+  -- where each reached instruction is one of the package's code
+  pub specials_fit : (m : Method) (rows : List (Option State)) → ((place : ℕ) (i : JInsn) (x : State)
+      → slice_get m.insns place ≡ Some i → HasRow rows place x → IsReached files one.codes m i.op x)
+      → SpecialsFit v (body_in files m) rows
+  specials_fit m rows reached place i id x there row is plain =
+      let r = reached place i x there row in
       let h = special_fits r.class id (subst (IsInsnOf files one.codes r.class) is r.insn) plain
       (let n = m.id in n.class) r.holder in
       record { private_one = h.0; above_holder = h.1 }

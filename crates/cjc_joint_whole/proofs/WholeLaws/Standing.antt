@@ -33,7 +33,7 @@ use Rattle.cjc_joint_theorem.specs.Members.{Member, files_of}
 use Rattle.cjc_joint_theorem.specs.Together.Homes.{joint_world}
 use Rattle.cjc_joint_theorem.proofs.OrderedLaws.Ordered.{IsJoint, joint_class, ordered, outside_file, own_file}
 use Rattle.cjc_joint_whole.specs.Told.{IsDeclaredAbove, IsToldAbove}
-use Rattle.cjc_joint_whole.specs.Whole.{AreWhole, IsWrittenFor}
+use Rattle.cjc_joint_whole.specs.Whole.{AreWholeWith, IsWrittenFor}
 use Rattle.cjc_joint_whole.proofs.WholeLaws.Coded.{class_there, found_there, hit_there}
 use Rattle.cjc_joint_whole.proofs.WholeLaws.Exposed.{own_here}
 use Rattle.cjc_joint_whole.proofs.WholeLaws.Imports.{exported}
@@ -81,7 +81,7 @@ seen_by flags e = by (is_selectable flags) (is_package_visible flags) e
     by true true e = absurd cc
     by false v e = absurd cc
 
-module _ (members : List Member) (is : AreWhole members) where
+module _ {K : _} (members : List Member) (is : AreWholeWith K members) where
   abbrev group : List Files
   group = files_of members
 

@@ -32,7 +32,7 @@ use Rattle.cjc_joint_theorem.specs.Members.{Member, files_of}
 use Rattle.cjc_joint_theorem.specs.Together.Homes.{joint_world}
 use Rattle.cjc_joint_theorem.proofs.OrderedLaws.Ordered.{ordered}
 use Rattle.cjc_joint_whole.specs.Told.{IsDeclaredAbove, IsOfKind, IsToldAbove}
-use Rattle.cjc_joint_whole.specs.Whole.{AreWhole, IsWrittenFor}
+use Rattle.cjc_joint_whole.specs.Whole.{AreWholeWith, IsWrittenFor}
 use Rattle.cjc_joint_whole.proofs.WholeLaws.Asked.{of_root}
 use Rattle.cjc_joint_whole.proofs.WholeLaws.Exposed.{own_here}
 use Rattle.cjc_joint_whole.proofs.WholeLaws.HiddenStands.{no_static}
@@ -85,7 +85,8 @@ module _ (w : List Class) (order : IsOrdered w) where
           (known (gathered false next)) (subst (Has d) (sym (known-append (S ++ I) self)) (has-front d (known (S ++ I))
           (known self) (subst (Has d) (sym (known-append S I)) (has-back d (known S) (known I) has)))))
 
-module _ (members : List Member) (is : AreWhole members) (tell : IsToldAbove members) (q : ℕ) (p : Member)
+module _ {K : _} (members : List Member) (is : AreWholeWith K members) (tell : IsToldAbove members) (q : ℕ)
+    (p : Member)
     (at : slice_get members q ≡ Some p) (id : MemberId) (ordinary : is_constructor id.name ≡ false) (place : Found)
     (hit : ResolvedMember) (wanted : is_open hit.flags ≡ true) (n : ℕ) (e : ExportClass)
     (named : class_named (all_classes p.files) e.name ≡ Some (imported n e))

@@ -17,7 +17,7 @@ use Rattle.cjc_joint_proof.proofs.ImageLaws.{cells_move, cells_split}
 use Rattle.cjc_joint_proof.proofs.SoundLaws.{apart}
 use Rattle.cjc_joint_theorem.specs.Members.{Member, files_of, images_of}
 use Rattle.cjc_joint_theorem.proofs.MembersLaws.Worlds.{files_at}
-use Rattle.cjc_joint_whole.specs.Whole.{AreWhole}
+use Rattle.cjc_joint_whole.specs.Whole.{AreWholeWith}
 
 front_lists : (xs ys : List MemberId) (f : MemberId) → lists xs f ≡ true → lists (xs ++ ys) f ≡ true
 front_lists [] ys f e = absurd cc
@@ -59,7 +59,8 @@ in_all image f (m ∷ group) (suc q) p at e =
     subst (λ fs. lists fs f ≡ true) (sym (map_append (λ (c : FieldValue). c.field) (cells image m.classes) more))
     (back_lists (fields_of (cells image m.classes)) (fields_of more) f (in_all image f group q p at e))
 
-module _ (members : List Member) (is : AreWhole members) (q : ℕ) (p : Member) (at : slice_get members q ≡ Some p) where
+module _ {K : _} (members : List Member) (is : AreWholeWith K members) (q : ℕ) (p : Member)
+    (at : slice_get members q ≡ Some p) where
   abbrev group : List Files
   group = files_of members
 

@@ -22,7 +22,6 @@ use Rattle.cjc_world.specs.Upwards.{Below}
 use Rattle.cjc_world.proofs.Cycles.{class_named-name}
 use Rattle.cjc_world.proofs.Subtypes.{transitive}
 use Rattle.cjc_world.proofs.UpwardLaws.Lines.{below_on}
-use Rattle.cjc_narrow_proof.specs.NCode.ByLabel.{Named}
 use Rattle.cjc_narrow_proof.specs.Runs.Calls as alone
 use Rattle.cjc_narrow_proof.specs.Runs.Calls.{Chooses, IsReceiverOn}
 use Rattle.cjc_narrow_proof.specs.Runs.Names.{IsNamed}
@@ -35,25 +34,28 @@ use Rattle.cjc_token_proof.specs.Types.declared.cell.Cell.{Cell}
 use Rattle.cjc_token_proof.specs.Types.declared.state.State.{State}
 use Rattle.cjc_token_proof.specs.Types.Search.{cells_of}
 use Rattle.cjc_joint_theorem.specs.Members.{Member, files_of, homes_of, images_of, member_of, number_of, tables_of}
-use Rattle.cjc_joint_theorem.specs.Together.Calls.{IsReceiverIn, selected_together}
+use Rattle.cjc_joint_theorem.specs.Together.Calls.{selected_together}
 use Rattle.cjc_joint_theorem.specs.Together.Calls as together
-use Rattle.cjc_joint_theorem.specs.Together.Homes.{group_look_ups, joint_world}
+use Rattle.cjc_joint_theorem.specs.Together.Homes.{joint_world}
 use Rattle.cjc_joint_theorem.specs.Together.Names.{IsNamedIn}
 use Rattle.cjc_joint_theorem.specs.Together.Names as names
-use Rattle.cjc_joint_theorem.proofs.MembersLaws.Worlds.{files_at, type_there}
+use Rattle.cjc_joint_theorem.proofs.MembersLaws.Worlds.{files_at}
 use Rattle.cjc_joint_theorem.proofs.OrderedLaws.Ordered.{IsJoint, joint_class, outside_file, own_file}
+use Rattle.cjc_joint_whole.specs.ModesCalls.{IsNamedCallee, IsReceiverIn, IsStandingCallee, joint_look_ups, named_callee}
 use Rattle.cjc_joint_whole.specs.Told.{IsToldAbove}
-use Rattle.cjc_joint_whole.specs.Whole.{AreWhole, IsSelecting, IsSelectingCall}
+use Rattle.cjc_joint_whole.specs.Whole.{AreWhole, AreWholeWith, IsSelectingCall}
 use Rattle.cjc_joint_whole.specs.Whole.{SelectionsStand}
 use Rattle.cjc_joint_whole.proofs.WholeLaws.AboveCalls.{above_stands}
 use Rattle.cjc_joint_whole.proofs.WholeLaws.AboveStanding.{met_open}
 use Rattle.cjc_joint_whole.proofs.WholeLaws.Accepted.{receiver_is}
+use Rattle.cjc_joint_whole.proofs.WholeLaws.Begun.{receiver_of}
 use Rattle.cjc_joint_whole.proofs.WholeLaws.Fields.{files_are}
+use Rattle.cjc_joint_whole.proofs.WholeLaws.FixedCalls.{itself_stands}
 use Rattle.cjc_joint_whole.proofs.WholeLaws.HiddenStands.{hidden_stands}
 use Rattle.cjc_joint_whole.proofs.WholeLaws.Implemented.{open_by}
-use Rattle.cjc_joint_whole.proofs.WholeLaws.Members.{are_members, plain_together, supers_together}
+use Rattle.cjc_joint_whole.proofs.WholeLaws.Members.{plain_together, reached_at, supers_together, type_together}
 use Rattle.cjc_joint_whole.proofs.WholeLaws.Owners.{owner_of}
-use Rattle.cjc_joint_whole.proofs.WholeLaws.Reached.{IsReached, reached}
+use Rattle.cjc_joint_whole.proofs.WholeLaws.Reached.{IsReached}
 use Rattle.cjc_joint_whole.proofs.WholeLaws.Receivers.{receiver_in}
 use Rattle.cjc_joint_whole.proofs.WholeLaws.Selected.{selects_open}
 use Rattle.cjc_joint_whole.proofs.WholeLaws.Selecting.{Selects, selects_any, selects_by_interface}
@@ -71,7 +73,7 @@ both_parts true true e = (refl, refl)
 both_parts true false e = absurd cc
 both_parts false b e = absurd cc
 
-module _ (members : List Member) (is : AreWhole members) (tell : IsToldAbove members) where
+module _ {K : _} (members : List Member) (is : AreWholeWith K members) (tell : IsToldAbove members) where
   abbrev group : List Files
   group = files_of members
 
@@ -115,7 +117,7 @@ module _ (members : List Member) (is : AreWhole members) (tell : IsToldAbove mem
             type r way (λ f. own)) (true_or_false c.is_imported)
 
   module _ (q : ℕ) (p : Member) (at : slice_get members q ≡ Some p) (codes : List MethodCode) (m : Method) (t : State)
-      (id : MemberId) (c : alone.IsCallee p.files id) (ordinary : is_constructor id.name ≡ false)
+      (id : MemberId) (c : IsNamedCallee p.files id) (ordinary : is_constructor id.name ≡ false)
       (wanted : (let hit = c.hit in is_selectable hit.flags) ≡ true)
       (shown : (let hit = c.hit in is_package_visible hit.flags) ≡ false) where
     abbrev v : List Class
@@ -124,14 +126,11 @@ module _ (members : List Member) (is : AreWhole members) (tell : IsToldAbove mem
     abbrev hit : ResolvedMember
     hit = c.hit
 
-    abbrev l : Named
-    l = group_look_ups group (joint_image (images_of members)) (homes_of members) (tables_of members)
-
     abbrev stack : List Cell
     stack = cells_of t.stack
 
     abbrev Receives : (holder : List ℕ) (op : ℕ) → Type 0
-    Receives holder op = IsReceiverIn group l (homes_of members) (tables_of members) p.files holder stack op id
+    Receives holder op = IsReceiverIn members id p.files holder stack op
 
     plain : is_special (record { name = id.name; desc = id.desc }) ≡ false
     plain = special_off (is_constructor id.name) (is_initialiser id.name) ordinary c.no_initialiser
@@ -153,7 +152,7 @@ module _ (members : List Member) (is : AreWhole members) (tell : IsToldAbove mem
         below_on w (receiver type) o.name d.name (type_below w type o.name open_name (transitive w type id.class o.name of
         above)) s.below
 
-    method_in : (s : IsMetOpen members id c.hit) → together.IsCalleeIn group p.files id
+    method_in : (s : IsMetOpen members id c.hit) → IsStandingCallee group p.files id
     method_in s = record {
       place = c.place;
       hit = c.hit;
@@ -166,12 +165,10 @@ module _ (members : List Member) (is : AreWhole members) (tell : IsToldAbove mem
       is_met = s.is_met;
       is_above = above;
       no_initialiser = c.no_initialiser;
-      desc = c.desc;
-      result = λ kind e. type_there members (are_members members is) q p.files (files_at members q p at) kind
-          (c.result kind e);
+      result = λ kind e. type_together members is q p.files (files_at members q p at) kind (c.result kind e);
     }
 
-    on_object : IsReached p.files codes m (jop.Call 0xB6 id) t → (holder : List ℕ) → IsMetOpen members id c.hit
+    pub on_object : IsReached p.files codes m (jop.Call 0xB6 id) t → (holder : List ℕ) → IsMetOpen members id c.hit
         → Receives holder 0xB6
     unfolding method_in
     on_object r holder s = record {
@@ -187,7 +184,7 @@ module _ (members : List Member) (is : AreWhole members) (tell : IsToldAbove mem
           record { is_of = of; callee = to.0; chooses = to.1; is_chosen = to.2 });
     }
 
-    on_interface : (let o = hit.owner in is_interface o.flags) ≡ true → IsReached p.files codes m (jop.Call 0xB9 id) t
+    pub on_interface : (let o = hit.owner in is_interface o.flags) ≡ true → IsReached p.files codes m (jop.Call 0xB9 id) t
         → (holder : List ℕ) → IsMetOpen members id c.hit → Receives holder 0xB9
     unfolding method_in
     on_interface it r holder s = record {
@@ -207,14 +204,14 @@ module _ (members : List Member) (is : AreWhole members) (tell : IsToldAbove mem
     }
 
     -- it has one
-    stands_open : IsMetOpen members id c.hit
+    pub stands_open : IsMetOpen members id c.hit
     stands_open =
         let o = owner_of p.files (solid_at members is q p at) id c.place c.hit c.found c.is_hit in
         met_open members is tell q p at id c.no_initialiser ordinary c.place c.hit c.is_hit opened o.class o.named o.own
         o.at o.is_hit
 
   -- a method of an interface is not package-visible
-  seen_of : (q : ℕ) (p : Member) → slice_get members q ≡ Some p → (id : MemberId) (c : alone.IsCallee p.files id)
+  pub seen_of : (q : ℕ) (p : Member) → slice_get members q ≡ Some p → (id : MemberId) (c : IsNamedCallee p.files id)
       → (let hit = c.hit in let o = hit.owner in is_interface o.flags) ≡ true
       → (let hit = c.hit in is_package_visible hit.flags) ≡ false
   seen_of q p at id c it =
@@ -226,60 +223,63 @@ module _ (members : List Member) (is : AreWhole members) (tell : IsToldAbove mem
       (sym (ap (λ (h : ResolvedMember). let y = h.owner in is_interface y.flags) o.is_hit) ∙ it) a.is_member
       (ap is_initialiser a.has_name ∙ c.no_initialiser)
 
-  -- ---- an instruction
+  -- ---- a call on a receiver
 
+  -- by how it chooses
+  pub choices_stand : (q : ℕ) (p : Member) (at : slice_get members q ≡ Some p) (m : Method) (t : State) (id : MemberId)
+      (c : IsNamedCallee p.files id) {op : ℕ} {class : List ℕ} {choice : List ℕ → Option Callee}
+      → (f : Chooses p.files (let n = m.id in n.class) id c.place c.hit op class choice)
+      → (let one = is.each q p at in IsReached p.files one.codes m (jop.Call op id) t)
+      → IsReceiverIn members id p.files (let n = m.id in n.class) (cells_of t.stack) op
+  choices_stand q p at m t id c (alone.on_class ordinary wanted) r =
+      let codes = (let one = is.each q p at in one.codes) in
+      ⊎_elim
+      (λ hidden. hidden_stands members is q p at codes m t id r c ordinary wanted hidden (let n = m.id in n.class))
+      (λ shown. on_object q p at codes m t id c ordinary wanted shown r (let n = m.id in n.class)
+      (stands_open q p at codes m t id c ordinary wanted shown))
+      (true_or_false (let hit = c.hit in is_package_visible hit.flags))
+  choices_stand q p at m t id c (alone.itself ground special) r = itself_stands members is q p at (let one = is.each q p
+      at in one.codes) m t id r c ground special (let n = m.id in n.class)
+  choices_stand q p at m t id c (alone.above_holder callee ground ordinary chosen) r =
+      above_stands members is tell q p at m t id r c ground ordinary
+  choices_stand q p at m t id c (alone.by_interface ordinary wanted) r =
+      let codes = (let one = is.each q p at in one.codes) in
+      let hit = c.hit in
+      let o = hit.owner in
+      let parts = both_parts (is_interface o.flags) (is_selectable hit.flags) wanted in
+      let shown = seen_of q p at id c parts.0 in
+      on_interface q p at codes m t id c ordinary parts.1 shown parts.0 r (let n = m.id in n.class)
+      (stands_open q p at codes m t id c ordinary parts.1 shown)
+
+-- ---- where no method works on int
+
+module _ (members : List Member) (is : AreWhole members) (tell : IsToldAbove members) where
   module _ (p : Member) (m : Method) (at : member_of members m ≡ Some p) (t : State) where
     abbrev part : ℕ
     part = number_of members m
-
-    abbrev look : Named
-    look = group_look_ups group (joint_image (images_of members)) (homes_of members) (tables_of members)
 
     abbrev Alone : JOp → Type 0
     Alone op = IsNamed p.files p.image p.near p.tables m (cells_of t.stack) op
 
     abbrev Together : JOp → Type 0
-    Together op = IsNamedIn group (joint_image (images_of members)) (homes_of members) (tables_of members) m
+    Together op = IsNamedIn (files_of members) (joint_image (images_of members)) (homes_of members) (tables_of members) m
         (cells_of t.stack) op
 
     abbrev code_list : List MethodCode
     code_list = let one = is.each part p at in one.codes
 
-    stands : (op : ℕ) (id : MemberId) → IsReceiverIn group look (homes_of members) (tables_of members) p.files
-        (let n = m.id in n.class) (cells_of t.stack) op id → Together (jop.Call op id)
-    stands op id h = names.a_call_on_receiver (subst (λ f. IsReceiverIn group look (homes_of members)
-        (tables_of members) f (let n = m.id in n.class) (cells_of t.stack) op id) (sym (files_are members is p m at)) h)
-
     call : (op : ℕ) (id : MemberId) → IsReached p.files code_list m (jop.Call op id) t
         → (h : IsReceiverOn p.files (look_ups p.files p.image p.near p.tables) p.tables (let n = m.id in n.class)
-        (cells_of t.stack) op id) → IsSelecting members h.form → Together (jop.Call op id)
-    call op id r h selects = by h.form r selects
-      where
-        by : {op : ℕ} {class : List ℕ} {choice : List ℕ → Option Callee} → (f : Chooses p.files (let n = m.id in n.class)
-            id (let c = h.method in c.place) (let c = h.method in c.hit) op class choice) → IsReached p.files code_list m
-            (jop.Call op id) t → IsSelecting members f → Together (jop.Call op id)
-        by (alone.on_class ordinary wanted) r selects =
-            ⊎_elim
-            (λ hidden. stands 0xB6 id (hidden_stands members is part p at code_list m t id r h.method ordinary wanted hidden
-            (let n = m.id in n.class)))
-            (λ shown. stands 0xB6 id (on_object part p at code_list m t id h.method ordinary wanted shown r (let n = m.id in
-            n.class) (stands_open part p at code_list m t id h.method ordinary wanted shown)))
-            (true_or_false (let c = h.method in let hit = c.hit in is_package_visible hit.flags))
-        by (alone.itself ground special) r selects = absurd selects
-        by (alone.above_holder callee ground ordinary chosen) r selects = stands 0xB7 id (above_stands members is tell
-            part p at m t id r h.method ground ordinary)
-        by (alone.by_interface ordinary wanted) r selects =
-            let c = h.method in
-            let hit = c.hit in
-            let o = hit.owner in
-            let parts = both_parts (is_interface o.flags) (is_selectable hit.flags) wanted in
-            let shown = seen_of part p at id c parts.0 in
-            stands 0xB9 id (on_interface part p at code_list m t id c ordinary parts.1 shown parts.0 r (let n = m.id in
-            n.class) (stands_open part p at code_list m t id c ordinary parts.1 shown))
+        (cells_of t.stack) op id) → Together (jop.Call op id)
+    call op id r h = names.a_call_on_receiver (subst (λ f. together.IsReceiverIn (files_of members)
+        (joint_look_ups members) (homes_of members) (tables_of members) f (let n = m.id in n.class) (cells_of t.stack)
+        op id) (sym (files_are members is p m at)) (receiver_of members is id (let c = h.method in c.desc) p.files
+        (let n = m.id in n.class) (cells_of t.stack) op (choices_stand members is tell part p at m t id (named_callee
+        h.method) h.form r)))
 
     select : (op : JOp) → IsReached p.files code_list m op t → (h : Alone op) → IsSelectingCall members h
         → Together op
-    select _ r (named_alone.a_call_on_receiver {op = op} {id = id} h) selects = call op id r h selects
+    select _ r (named_alone.a_call_on_receiver {op = op} {id = id} h) selects = call op id r h
     select _ r (named_alone.a_field f h) selects = elim selects [ ]
     select _ r (named_alone.a_put_field f h) selects = elim selects [ ]
     select _ r (named_alone.a_static f h) selects = elim selects [ ]
@@ -299,6 +299,4 @@ module _ (members : List Member) (is : AreWhole members) (tell : IsToldAbove mem
 
   pub selections_stand : SelectionsStand members
   selections_stand p m at place i t there row h selects =
-      let one = is.each (number_of members m) p at in
-      select p m at t i.op (reached one.list p.files one.codes one.settings p.tables one.whole m place i t there row) h
-      selects
+      select p m at t i.op (reached_at members is (number_of members m) p at m place i t there row) h selects

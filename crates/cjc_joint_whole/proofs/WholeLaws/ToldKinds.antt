@@ -35,7 +35,7 @@ use Rattle.cjc_joint_theorem.proofs.OrderedLaws.Ordered.{IsJoint, joint_class, o
 use Rattle.cjc_joint_theorem.proofs.OrderedLaws.Ordered.{super_there}
 use Rattle.cjc_joint_theorem.proofs.OrderedLaws.Standing.{class_stands, outside_in, same_kind}
 use Rattle.cjc_joint_whole.specs.Told.{IsDeclaredAbove, IsToldAbove}
-use Rattle.cjc_joint_whole.specs.Whole.{AreWhole, IsWrittenFor}
+use Rattle.cjc_joint_whole.specs.Whole.{AreWholeWith, IsWrittenFor}
 use Rattle.cjc_joint_whole.proofs.WholeLaws.Climbing.{climbing}
 use Rattle.cjc_joint_whole.proofs.WholeLaws.Exposed.{named_here, own_here}
 use Rattle.cjc_joint_whole.proofs.WholeLaws.Implemented.{interface_has}
@@ -75,7 +75,7 @@ same_signature m n e f = ap (λ x. pair x m.desc) e ∙ ap (pair n.name) f
     pair : List ℕ → List ℕ → Signature
     pair x y = record { name = x; desc = y }
 
-module _ (members : List Member) (is : AreWhole members) where
+module _ {K : _} (members : List Member) (is : AreWholeWith K members) where
   abbrev group : List Files
   group = files_of members
 

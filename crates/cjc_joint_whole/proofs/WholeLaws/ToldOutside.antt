@@ -18,10 +18,11 @@ use Rattle.cjc_joint_theorem.specs.Members.{Member, files_of}
 use Rattle.cjc_joint_theorem.specs.Together.Homes.{joint_world}
 use Rattle.cjc_joint_theorem.proofs.OrderedLaws.Ordered.{IsJoint, joint_class, ordered, outside_file, own_file}
 use Rattle.cjc_joint_whole.specs.Told.{HasOpenEntry, OutsideListsAbove}
-use Rattle.cjc_joint_whole.specs.Whole.{AreWhole}
+use Rattle.cjc_joint_whole.specs.Whole.{AreWholeWith}
 use Rattle.cjc_joint_whole.proofs.WholeLaws.Members.{ordered_together}
 
-module _ (members : List Member) (is : AreWhole members) (lists : OutsideListsAbove (files_of members)) where
+module _ {K : _} (members : List Member) (is : AreWholeWith K members)
+    (lists : OutsideListsAbove (files_of members)) where
   abbrev group : List Files
   group = files_of members
 

@@ -34,7 +34,7 @@ use Rattle.cjc_joint_theorem.proofs.OrderedLaws.Ordered.{ordered}
 use Rattle.cjc_joint_theorem.proofs.OrderedLaws.Standing.{Stands, class_stands}
 use Rattle.cjc_joint_theorem.proofs.OrderedLaws.Standing as standing
 use Rattle.cjc_joint_whole.specs.Told.{AboveIsKnown, HasOpenEntry, IsDeclaredAbove}
-use Rattle.cjc_joint_whole.specs.Whole.{AreWhole, IsWrittenFor}
+use Rattle.cjc_joint_whole.specs.Whole.{AreWholeWith, IsWrittenFor}
 use Rattle.cjc_joint_whole.proofs.WholeLaws.AboveListed.{above_are_listed}
 use Rattle.cjc_joint_whole.proofs.WholeLaws.Climbing.{climbing}
 use Rattle.cjc_joint_whole.proofs.WholeLaws.Exposed.{named_here, own_here}
@@ -57,7 +57,8 @@ pub record SeenOn (v : List Class) (x name desc : List ℕ) : Type 0 where
 same_class : {c d : Class} → Some c ≡ Some d → c ≡ d
 same_class e = cc
 
-module _ (members : List Member) (is : AreWhole members) (known : AboveIsKnown (files_of members)) (d : Class) (i : ℕ)
+module _ {K : _} (members : List Member) (is : AreWholeWith K members)
+    (known : AboveIsKnown (files_of members)) (d : Class) (i : ℕ)
     (n : WorldMember) (there : slice_get d.methods i ≡ Some n) (open_one : is_open n.flags ≡ true)
     (ordinary : is_constructor n.name ≡ false) where
   abbrev group : List Files

@@ -19,7 +19,7 @@ use Rattle.cjc_world.specs.Files.{Files}
 use Rattle.cjc_joint_theorem.specs.Members.{Member}
 use Rattle.cjc_joint_theorem.proofs.MembersLaws.Worlds.{files_at}
 use Rattle.cjc_joint_whole.specs.Entries.{MeantAreListed, VirtualAreOwn}
-use Rattle.cjc_joint_whole.specs.Whole.{AreWhole, IsWrittenFor}
+use Rattle.cjc_joint_whole.specs.Whole.{AreWholeWith, IsWrittenFor}
 use Rattle.cjc_joint_whole.proofs.WholeLaws.Solid.{solid_at}
 use Rattle.cjc_joint_whole.proofs.WholeLaws.VirtualEntries.{meant_are_listed, virtual_are_own}
 
@@ -33,7 +33,7 @@ pub record IsTested (files : Files) : Type 0 where
   pub solid : IsSolid files
   pub keeps : Keeps (all_classes files)
 
-module _ (members : List Member) (is : AreWhole members) where
+module _ {K : _} (members : List Member) (is : AreWholeWith K members) where
   pub tested_at : (q : ℕ) (p : Member) → slice_get members q ≡ Some p → IsTested p.files
   tested_at q p at =
       let one = is.each q p at in
