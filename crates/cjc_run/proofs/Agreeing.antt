@@ -4,8 +4,6 @@ use Rattle.std.proofs.Common.{length, Option, Some, None, Result, Ok, IfSome}
 use Rattle.std.proofs.lemmas.List.{append-nil, append_assoc}
 use Rattle.std.specs.FinMap.{get}
 use Rattle.std.specs.Prelude.{slice_get}
-use Rattle.cjc_accepted_files.specs.CmdCheck.Folder.Breaks.{cap_in}
-use Rattle.cjc_accepted_files.specs.Folder.{input_of, parts_of}
 use Rattle.cjc_cmd_link.specs.LinkSemantics.Loaded.{Member}
 use Rattle.cjc_cmd_link.specs.Reads.{member_behind, plan_behind_lines, plan_behind_members, plan_behind_text}
 use Rattle.cjc_cmd_link.specs.Reads.{plan_of_group, plan_of_members}
